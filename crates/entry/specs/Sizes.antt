@@ -7,7 +7,7 @@ use native.Mathlib.Omega.{arith}
 use lib.ListN.{length, length-append}
 use lib.Dec.{eqb}
 use borrow.Author.Tests.{eq-eqb}
-use Rattle.number.proofs.Bytes.{length-bytes}
+use Rattle.number.specs.Laws.{length-bytes}
 use Rattle.plan.specs.Plan.{puts, puts-append}
 use Rattle.dialect.specs.declared.Dialect.{Dialect}
 use Rattle.dialect.specs.declared.ValueType.{ValueType}
