@@ -4,7 +4,8 @@ have() {
     package=$1
     shift
     "$@" >/dev/null 2>&1 && return
-    DEBIAN_FRONTEND=noninteractive apt-get install -y --no-install-recommends "$package" >/dev/null 2>&1
+    install() { DEBIAN_FRONTEND=noninteractive apt-get install -y --no-install-recommends "$package"; }
+    { install || { apt-get update && install; }; } >/dev/null 2>&1
     "$@" >/dev/null 2>&1 && return
     echo "skipped: $(basename "$0") needs the package $package, which cannot be had here"
     exit 77
