@@ -1,0 +1,58 @@
+use borrow.Author.Needs.{needs}
+use Rattle.pierloft.proofs.flat_entry.Statement.{statement}
+use Rattle.pierloft.proofs.flat_entry.Tie as tie
+use Rattle.pierloft.proofs.flat_entry.Reads as reads
+use Rattle.pierloft.proofs.flat_entry.Lts as lts
+
+enum-known-e : tie.Need-enum-known-e
+enum-known-e c = search needs
+
+enum-known-e-2 : tie.Need-enum-known-e-2
+enum-known-e-2 c = search needs
+
+enum-known-e-3 : tie.Need-enum-known-e-3
+enum-known-e-3 c = search needs
+
+enum-known-e-4 : tie.Need-enum-known-e-4
+enum-known-e-4 c = search needs
+
+enum-known-e-5 : tie.Need-enum-known-e-5
+enum-known-e-5 c = search needs
+
+enum-known-e-6 : tie.Need-enum-known-e-6
+enum-known-e-6 c = search needs
+
+returns : tie.Need-returns
+returns c = rw (c .before .e .given .1)
+
+returns-2 : tie.Need-returns-2
+returns-2 c = rw (c .before .e2 .given .1)
+
+returns-3 : tie.Need-returns-3
+returns-3 c = rw (c .before .e3 .given .1)
+
+returns-4 : tie.Need-returns-4
+returns-4 c = rw (c .before .e4 .given .1)
+
+returns-5 : tie.Need-returns-5
+returns-5 c = rw (c .before .e5 .given .1)
+
+returns-6 : tie.Need-returns-6
+returns-6 c = rw (c .before .e6 .given .1)
+
+pub flat-entry-spec : {M : Type 1} → statement M
+flat-entry-spec =
+    tie.close
+    (tie.spec
+    enum-known-e
+    enum-known-e-2
+    enum-known-e-3
+    enum-known-e-4
+    enum-known-e-5
+    enum-known-e-6
+    returns
+    returns-2
+    returns-3
+    returns-4
+    returns-5
+    returns-6)

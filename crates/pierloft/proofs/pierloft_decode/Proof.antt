@@ -1,0 +1,30 @@
+use mathlib.Core.Path.{ap, _∙_}
+use Rattle.dialect.specs.declared.Dialect.{Dialect}
+use Rattle.entry.specs.Decoded.{decoded}
+use Rattle.pierloft.specs.Flat.{flatEntry}
+use borrow.Author.Needs.{needs}
+use Rattle.pierloft.proofs.pierloft_decode.Statement.{statement}
+use Rattle.pierloft.proofs.pierloft_decode.Tie as tie
+use Rattle.pierloft.proofs.pierloft_decode.Reads as reads
+use Rattle.pierloft.proofs.pierloft_decode.Lts as lts
+use Rattle.entry.proofs.decode.Reads as decode-reads
+use Rattle.pierloft.proofs.dialect_of.Reads as dialect-of-reads
+use Rattle.pierloft.proofs.flat_entry.Reads as flat-entry-reads
+
+dialect-of-requires : tie.Need-dialect-of-requires
+dialect-of-requires c κs = search needs
+
+decode-requires : tie.Need-decode-requires
+decode-requires c κs = search needs
+
+flat-entry-requires : tie.Need-flat-entry-requires
+flat-entry-requires c κs = search needs
+
+returns : tie.Need-returns
+returns c =
+    let a = c .before .before .before .before .args in
+    c .flat-entry .ensures ∙ ap flatEntry (c .before .decode .ensures .0 ∙ ap (λ (d : Dialect). decoded d (a .image .now) (a .at)) (c .before .before .dialect-of .ensures))
+
+pub pierloft-decode-spec : {M : Type 1} → statement M
+pierloft-decode-spec =
+    tie.close (tie.spec dialect-of-requires decode-requires flat-entry-requires returns)
