@@ -1,0 +1,182 @@
+//! The static library, as include/pierloft.h declares it, asked in document 01's words.
+use answers::{Batch, Call, Decoded, Dialect, Entry, Item, Judge, Reading, Written, KINDS};
+
+#[repr(C)]
+#[derive(Clone, Copy, Debug, PartialEq, Eq)]
+pub struct FlatDialect {
+    pub magic: [u8; 8],
+    pub length: usize,
+    pub value: u8,
+    pub tombstone: u8,
+    pub weak: u8,
+    pub indirection: u8,
+    pub none: u8,
+}
+
+#[repr(C)]
+#[derive(Clone, Copy, Debug, PartialEq, Eq)]
+pub struct FlatReader {
+    pub at: usize,
+    pub ended: u32,
+    pub outcome: u32,
+}
+
+#[repr(C)]
+#[derive(Clone, Copy, Debug, PartialEq, Eq)]
+pub struct FlatEntry {
+    pub number: u32,
+    pub tag: u8,
+    pub value_type: u8,
+    pub count: u64,
+    pub seqno: u64,
+    pub keyspace: u64,
+    pub checksum: u64,
+    pub key_at: usize,
+    pub key_len: usize,
+    pub value_at: usize,
+    pub value_len: usize,
+    pub next: usize,
+}
+
+#[repr(C)]
+#[derive(Clone, Copy, Debug, PartialEq, Eq)]
+pub struct FlatStep {
+    pub number: u32,
+    pub accepted: u32,
+    pub outcome: u32,
+    pub seqno: u64,
+    pub count: u64,
+    pub body: usize,
+    pub end: usize,
+    pub next: usize,
+    pub reader: FlatReader,
+}
+
+mod c {
+    use super::{FlatDialect, FlatEntry, FlatReader, FlatStep};
+
+    extern "C" {
+        pub fn pierloft_decode(image: *const u8, length: usize, at: usize, dialect: FlatDialect) -> FlatEntry;
+        pub fn pierloft_step(image: *const u8, length: usize, reader: FlatReader, dialect: FlatDialect) -> FlatStep;
+        pub fn pierloft_kept(length: usize, reader: FlatReader) -> usize;
+    }
+}
+
+// The image is lent for the call, which writes nothing: every state, position and dialect is allowed.
+pub fn decode(image: &[u8], at: usize, dialect: FlatDialect) -> FlatEntry {
+    unsafe { c::pierloft_decode(image.as_ptr(), image.len(), at, dialect) }
+}
+
+pub fn step(image: &[u8], reader: FlatReader, dialect: FlatDialect) -> FlatStep {
+    unsafe { c::pierloft_step(image.as_ptr(), image.len(), reader, dialect) }
+}
+
+pub fn kept(length: usize, reader: FlatReader) -> usize {
+    unsafe { c::pierloft_kept(length, reader) }
+}
+
+pub fn flat(d: Dialect) -> FlatDialect {
+    let mut magic = [0; 8];
+    magic[..d.magic.len()].copy_from_slice(d.magic);
+    FlatDialect {
+        magic,
+        length: d.magic.len(),
+        value: d.codes[0],
+        tombstone: d.codes[1],
+        weak: d.codes[2],
+        indirection: d.codes[3],
+        none: d.none,
+    }
+}
+
+pub const BEGIN: FlatReader = FlatReader { at: 0, ended: 0, outcome: 0 };
+
+/// The library under a dialect.
+pub struct Ours {
+    dialect: Dialect,
+    flat: FlatDialect,
+    /// Answers wrongly on purpose, to see that a difference is found: a tag of 0 where a batch may begin ends clean.
+    pub spoilt: bool,
+}
+
+impl Ours {
+    pub fn new(dialect: Dialect) -> Self {
+        Self { dialect, flat: flat(dialect), spoilt: false }
+    }
+
+    fn entry(&self, image: &[u8], e: &FlatEntry) -> Entry {
+        match e.tag {
+            1 => Entry::Start { count: e.count, seqno: e.seqno },
+            2 => {
+                assert!(e.key_at + e.key_len == e.value_at && e.value_at + e.value_len == e.next);
+                let code = self.dialect.codes.iter().position(|c| *c == e.value_type).expect("a code of the dialect");
+                Entry::Item(Item {
+                    keyspace: e.keyspace,
+                    kind: KINDS[code],
+                    key: image[e.key_at..e.value_at].to_vec(),
+                    value: image[e.value_at..e.next].to_vec(),
+                })
+            }
+            3 => Entry::End { checksum: e.checksum },
+            4 => Entry::Clear { keyspace: e.keyspace },
+            t => panic!("tag {t}"),
+        }
+    }
+
+    /// A batch's body, walked entry by entry.
+    fn batch(&self, image: &[u8], at: usize, s: &FlatStep) -> Batch {
+        assert!(s.reader == FlatReader { at: s.next, ended: 0, outcome: 0 } && s.body == at + 13);
+        let mut entries = vec![];
+        let mut place = s.body;
+        while place < s.end {
+            let e = decode(image, place, self.flat);
+            assert!(e.number == 0 && (e.tag == 2 || e.tag == 4) && place < e.next && e.next <= s.end);
+            entries.push(self.entry(image, &e));
+            place = e.next;
+        }
+        let end = decode(image, s.end, self.flat);
+        assert!(end.number == 0 && end.tag == 3 && end.next == s.next);
+        Batch { at, next: s.next, seqno: s.seqno, count: s.count, entries }
+    }
+}
+
+impl Judge for Ours {
+    fn dialect(&self) -> Dialect {
+        self.dialect
+    }
+
+    fn read(&mut self, image: &[u8]) -> Reading {
+        let mut batches = vec![];
+        let mut reader = BEGIN;
+        loop {
+            let s = step(image, reader, self.flat);
+            assert!(s.number == 0);
+            if s.accepted == 1 {
+                batches.push(self.batch(image, reader.at, &s));
+                reader = s.reader;
+                continue;
+            }
+            let ended = FlatReader { at: reader.at, ended: 1, outcome: s.outcome };
+            assert!(s.accepted == 0 && s.reader == ended);
+            assert!(step(image, ended, self.flat) == s, "an ended state answers its outcome again");
+            let outcome = if self.spoilt && image.get(ended.at) == Some(&0) { 0 } else { s.outcome };
+            let kept = kept(image.len(), ended);
+            return Reading { batches, outcome, valid: ended.at, kept };
+        }
+    }
+
+    fn decode(&mut self, image: &[u8], at: usize) -> Decoded {
+        let e = decode(image, at, self.flat);
+        match e.number {
+            0 => Decoded::Entry { entry: self.entry(image, &e), next: e.next },
+            n => {
+                assert!(e == FlatEntry { number: n, tag: 0, value_type: 0, count: 0, seqno: 0, keyspace: 0, checksum: 0, key_at: 0, key_len: 0, value_at: 0, value_len: 0, next: 0 });
+                Decoded::Fault(n)
+            }
+        }
+    }
+
+    fn write(&mut self, _calls: &[Call]) -> Written {
+        unimplemented!("the writer's calls are not exported yet")
+    }
+}
