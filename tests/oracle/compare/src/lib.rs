@@ -1,7 +1,9 @@
 //! The static library beside the Rust, in one process: the same images to both, and every answer compared.
+pub mod cases;
 pub mod check;
 pub mod make;
 pub mod ours;
+pub mod plain;
 pub mod random;
 pub mod shrink;
 

@@ -1,12 +1,14 @@
 //! compare run SEED COUNT      all sets, COUNT random images over the four dialects, the large images
 //! compare random SEED COUNT   the random images alone
 //! compare sets                the sets alone
+//! compare cases SEED COUNT    made-up dialects and states (compare/src/cases.rs)
 //! compare large SEED          the large images alone
 //! compare image DIALECT HEX   what both sides say of one image
 //! compare spoilt              the library made to answer wrongly: the difference must be found and shrunk to one byte
 //!
 //! A difference prints the smallest image that shows it and what both sides say, and ends with status 1.
 use answers::{hex, unhex, Judge};
+use compare::cases::case;
 use compare::check::{difference, Tally};
 use compare::make::{self, FAMILIES};
 use compare::random::Random;
@@ -80,6 +82,24 @@ fn random(pairs: &mut [Pair], seed: u64, count: u64) -> u64 {
     seen.images
 }
 
+/// Made-up dialects and states over images of every family.
+fn cases(pairs: &mut [Pair], seed: u64, count: u64) -> Result<(), String> {
+    let since = Instant::now();
+    let mut r = Random::new(seed);
+    for i in 0..count {
+        let d = pairs[r.below(pairs.len())].ours.dialect();
+        let mut bytes = r.bytes(24);
+        bytes[0] = 2;
+        bytes.extend(make::random(&mut r, &d, FAMILIES[i as usize % FAMILIES.len()]));
+        if let Err(how) = case(pairs, &bytes) {
+            let least = shrink(&bytes, |less| case(pairs, less).is_err());
+            return Err(format!("DIFFERENCE (seed {seed}, number {i}): {}\n{}\nat first: {how}", hex(&least), case(pairs, &least).unwrap_err()));
+        }
+    }
+    println!("cases, seed {seed}: {count} made-up dialects and states, no difference; {:.1} s", since.elapsed().as_secs_f64());
+    Ok(())
+}
+
 fn large(pairs: &mut [Pair], seed: u64) -> u64 {
     let (since, mut seen) = (Instant::now(), Tally::default());
     let mut r = Random::new(seed);
@@ -122,11 +142,13 @@ fn run(words: &[String]) -> Result<(), String> {
     let compared = match word(0)? {
         "run" => {
             let (seed, count) = (number(1)?, number(2)?);
+            cases(&mut all, seed, count / 4)?;
             sets(&mut all) + random(&mut all, seed, count) + large(&mut all, seed)
         }
         "random" => random(&mut all, number(1)?, number(2)?),
         "sets" => sets(&mut all),
         "large" => large(&mut all, number(1)?),
+        "cases" => return cases(&mut all, number(1)?, number(2)?),
         "image" => return image(&mut all, word(1)?, word(2)?),
         "spoilt" => return spoilt(&mut all),
         w => return Err(format!("no such word: {w}")),

@@ -1,0 +1,140 @@
+//! A case is made of bytes, so that a fuzzer can turn them. The first says what the rest is:
+//!   0 an image, 1 a list of entries from which an image with true checksums is made: read by the library and by the Rust;
+//!   2 a dialect, a state and an image, all made up: a step, an entry and what to keep, held to the plain reading of document 01, and to
+//!     the Rust where the dialect is one of its four.
+use crate::check::{difference, Tally};
+use crate::make::{self, Sum, Token};
+use crate::ours::{self, FlatDialect, FlatReader};
+use crate::{plain, Pair};
+use answers::{hex, Dialect, Judge};
+use std::fmt::Debug;
+
+pub const KINDS: u8 = 3;
+
+/// The bytes of a case, taken from the front; 0 where there are no more.
+struct Input<'a>(&'a [u8]);
+
+impl<'a> Input<'a> {
+    fn byte(&mut self) -> u8 {
+        let Some((first, rest)) = self.0.split_first() else { return 0 };
+        self.0 = rest;
+        *first
+    }
+
+    fn number(&mut self, width: usize) -> u64 {
+        (0..width).fold(0, |n, i| n | u64::from(self.byte()) << (8 * i))
+    }
+
+    fn take(&mut self, n: usize) -> &'a [u8] {
+        let (part, rest) = self.0.split_at(n.min(self.0.len()));
+        self.0 = rest;
+        part
+    }
+
+    /// Small, or around a length, or anything.
+    fn near(&mut self, length: usize) -> usize {
+        match self.byte() % 4 {
+            0 => self.byte() as usize,
+            1 => length.wrapping_sub(self.byte() as usize),
+            2 => length.wrapping_add(self.byte() as usize),
+            _ => self.number(8) as usize,
+        }
+    }
+}
+
+type Said = Result<(), String>;
+
+fn same<T: PartialEq + Debug>(what: &str, library: T, other: T) -> Said {
+    if library == other {
+        return Ok(());
+    }
+    Err(format!("{what}\nthe library: {library:?}\nit should be: {other:?}"))
+}
+
+fn token(i: &mut Input, d: &Dialect) -> Token {
+    match i.byte() % 8 {
+        0 => Token::Start { count: u32::from(i.byte() % 4), seqno: i.number(2) },
+        1 => Token::Start { count: i.number(4) as u32, seqno: i.number(8) },
+        2 => Token::Clear(i.number(8)),
+        3 => Token::End(Sum::Anew),
+        4 => Token::End([Sum::AsTheyStand, Sum::OfNone, Sum::Number(0), Sum::Anew][i.byte() as usize % 4]),
+        5 => {
+            let n = i.byte() as usize;
+            Token::Bytes(i.take(n).to_vec())
+        }
+        6 => {
+            let (kind, keyspace, k, v) = (i.byte() as usize % 4, i.number(2), i.byte() as usize, i.number(2) as usize);
+            make::item(d, keyspace, kind, i.take(k), i.take(v))
+        }
+        _ => {
+            let (code, none, stated, disk, n) = (i.byte(), i.byte(), i.number(4) as u32, i.number(4) as u32, i.byte() as usize);
+            Token::Item { code, none, keyspace: i.number(1), key: i.take(n).to_vec(), stated, disk, value: i.take(disk as usize).to_vec() }
+        }
+    }
+}
+
+fn read(pair: &mut Pair, image: &[u8]) -> Said {
+    difference(pair, image, &mut Tally::default())
+        .map_or(Ok(()), |how| Err(format!("under {}, {} bytes: {}\n{how}", pair.ours.dialect().name, image.len(), hex(image))))
+}
+
+/// One of the four, or one with a field or all fields made up.
+fn dialect(i: &mut Input, four: &[Pair]) -> FlatDialect {
+    let mut d = ours::flat(four[i.byte() as usize % 4].ours.dialect());
+    match i.byte() % 8 {
+        0 => {
+            d.magic.copy_from_slice(&i.number(8).to_le_bytes());
+            d.length = i.near(8);
+            [d.value, d.tombstone, d.weak, d.indirection, d.none] = std::array::from_fn(|_| i.byte());
+        }
+        1 => d.length = i.near(d.length),
+        2 => d.magic[i.byte() as usize % 8] = i.byte(),
+        3 => d.weak = i.byte(),
+        _ => {}
+    }
+    d
+}
+
+fn made_up(four: &mut [Pair], i: &mut Input) -> Said {
+    let d = dialect(i, four);
+    let (at, ended, outcome) = (i.byte(), i.byte() % 4, i.byte() % 8);
+    let length = i.0.len();
+    let at = if at < 128 { at as usize % (length + 1) } else { i.near(length.saturating_sub(2)) };
+    let ended = [0, 0, 1, u32::MAX][ended as usize];
+    let reader = FlatReader { at, ended, outcome: if outcome == 7 { u32::MAX } else { outcome.into() } };
+    let image = i.0;
+    let step = ours::step(image, reader, d);
+    same("step", step, plain::step(image, reader, &d))?;
+    same("decode", ours::decode(image, at, d), plain::decode(image, at, &d))?;
+    same("kept", ours::kept(length, reader), plain::kept(length, reader))?;
+    let Some(pair) = four.iter_mut().find(|p| ours::flat(p.ours.dialect()) == d) else { return Ok(()) };
+    if step.number != 0 || ended != 0 {
+        return Ok(());
+    }
+    // the Rust reads from 0: what stands from there on is a journal of its own to it
+    let rust = pair.rust.read(&image[at..]);
+    match rust.batches.first() {
+        Some(b) => same("batch", (step.accepted, step.seqno, step.count, step.next), (1, b.seqno, b.count, at + b.next)),
+        None => same("end", (step.accepted, step.outcome), (0, rust.outcome)),
+    }
+}
+
+pub fn case(four: &mut [Pair], bytes: &[u8]) -> Said {
+    let i = &mut Input(bytes);
+    match i.byte() % KINDS {
+        0 => {
+            let n = i.byte() as usize % 4;
+            read(&mut four[n], i.0)
+        }
+        1 => {
+            let n = i.byte() as usize % 4;
+            let d = four[n].ours.dialect();
+            let mut tokens = vec![];
+            while !i.0.is_empty() {
+                tokens.push(token(i, &d));
+            }
+            read(&mut four[n], &make::image(&d, &tokens))
+        }
+        _ => made_up(four, i),
+    }
+}
