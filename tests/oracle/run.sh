@@ -10,4 +10,5 @@ cd "$(dirname "$0")"
 ./build.sh
 compare=target/cargo/release/compare
 $compare spoilt
+$compare differences
 $compare run "$1" "$2"

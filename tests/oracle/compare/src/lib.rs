@@ -1,6 +1,8 @@
 //! The static library beside the Rust, in one process: the same images to both, and every answer compared.
 pub mod cases;
 pub mod check;
+pub mod differences;
+pub mod list;
 pub mod make;
 pub mod ours;
 pub mod plain;

@@ -4,6 +4,8 @@
 //! compare cases SEED COUNT    made-up dialects and states (compare/src/cases.rs)
 //! compare large SEED          the large images alone
 //! compare image DIALECT HEX   what both sides say of one image
+//! compare differences         what docs/DIFFERENCES.md lists, both sides run
+//! compare list DIALECT FOLDER the fixed list: stdin and stdout of the program that replays it
 //! compare spoilt              the library made to answer wrongly: the difference must be found and shrunk to one byte
 //!
 //! A difference prints the smallest image that shows it and what both sides say, and ends with status 1.
@@ -111,8 +113,12 @@ fn large(pairs: &mut [Pair], seed: u64) -> u64 {
     seen.images
 }
 
+fn named<'a>(pairs: &'a mut [Pair], name: &str) -> Result<&'a mut Pair, String> {
+    pairs.iter_mut().find(|p| p.ours.dialect().name == name).ok_or(format!("no such dialect: {name}"))
+}
+
 fn image(pairs: &mut [Pair], name: &str, digits: &str) -> Result<(), String> {
-    let pair = pairs.iter_mut().find(|p| p.ours.dialect().name == name).ok_or("no such dialect")?;
+    let pair = named(pairs, name)?;
     let bytes = unhex(digits).ok_or("not hexadecimal")?;
     print!("the Rust:\n{}", pair.rust.read(&bytes).listing(bytes.len()));
     print!("the library:\n{}", pair.ours.read(&bytes).listing(bytes.len()));
@@ -148,6 +154,15 @@ fn run(words: &[String]) -> Result<(), String> {
         "random" => random(&mut all, number(1)?, number(2)?),
         "sets" => sets(&mut all),
         "large" => large(&mut all, number(1)?),
+        "differences" => {
+            compare::differences::run();
+            return Ok(());
+        }
+        "list" => {
+            let n = compare::list::write(named(&mut all, word(1)?)?, word(2)?.as_ref()).map_err(|e| e.to_string())?;
+            println!("{n} images and the Rust's answers are in {}", word(2)?);
+            return Ok(());
+        }
         "cases" => return cases(&mut all, number(1)?, number(2)?),
         "image" => return image(&mut all, word(1)?, word(2)?),
         "spoilt" => return spoilt(&mut all),
