@@ -7,7 +7,7 @@ use crate::journal::reader::JournalReader;
 use crate::journal::writer::{PersistMode, Writer};
 use crate::{Error, JournalRecoveryError, Keyspace};
 use answers::{Batch, Call, Decoded, Dialect, Entry, Item, Judge, Kind, Reading, Written};
-use lsm_tree::ValueType;
+use lsm_tree::{ValueType, CODES};
 use std::fs::File;
 use std::os::fd::AsRawFd;
 use std::os::unix::fs::FileExt;
@@ -176,7 +176,7 @@ fn batch(image: &[u8], at: usize, next: usize, b: FjallBatch) -> Batch {
 
 impl Judge for Fjall {
     fn dialect(&self) -> Dialect {
-        Dialect { name: NAME, magic: crate::file::MAGIC_BYTES, codes: [CODES[0], CODES[1], CODES[2], CODES[3]], none: CODES[4] }
+        Dialect::new(NAME, crate::file::MAGIC_BYTES, CODES)
     }
 
     /// A reading that ends with no error is clean exactly if the file is as long as it was: a torn one is cut to less.
@@ -227,5 +227,3 @@ impl Judge for Fjall {
         self.written(writer, counts)
     }
 }
-
-use lsm_tree::CODES;

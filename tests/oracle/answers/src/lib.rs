@@ -11,13 +11,27 @@ pub enum Kind {
 
 pub const KINDS: [Kind; 4] = [Kind::Value, Kind::Tombstone, Kind::WeakTombstone, Kind::Indirection];
 
-/// A magic, the codes of the four kinds, and the code for no compression.
+/// A magic of `length` bytes, the codes of the four kinds, and the code for no compression.
 #[derive(Clone, Copy, Debug, PartialEq, Eq)]
 pub struct Dialect {
     pub name: &'static str,
-    pub magic: &'static [u8],
+    pub magic: [u8; 8],
+    pub length: usize,
     pub codes: [u8; 4],
     pub none: u8,
+}
+
+impl Dialect {
+    pub fn new(name: &'static str, used: &[u8], codes: [u8; 5]) -> Self {
+        let mut magic = [0; 8];
+        magic[..used.len()].copy_from_slice(used);
+        Self { name, magic, length: used.len(), codes: [codes[0], codes[1], codes[2], codes[3]], none: codes[4] }
+    }
+
+    /// The bytes that end an End; of a made-up dialect at most eight.
+    pub fn trailer(&self) -> &[u8] {
+        &self.magic[..self.length.min(8)]
+    }
 }
 
 #[derive(Clone, Debug, PartialEq, Eq)]

@@ -1,15 +1,15 @@
 //! A case is made of bytes, so that a fuzzer can turn them. The first says what the rest is:
-//!   0 an image, 1 a list of entries from which an image with true checksums is made: read by the library and by the Rust;
-//!   2 a dialect, a state and an image, all made up: a step, an entry and what to keep, held to the plain reading of document 01, and to
-//!     the Rust where the dialect is one of its four.
+//!   0 an image, and 1 a list of entries from which an image with true checksums is made: read by the library and by the Rust;
+//!   2 and 3 a dialect and a state, made up, and an image or a list: a step, an entry and what to keep, held to the plain reading of
+//!     document 01, and to the Rust where the dialect is one of its four.
 use crate::check::{difference, Tally};
 use crate::make::{self, Sum, Token};
-use crate::ours::{self, FlatDialect, FlatReader};
+use crate::ours::{self, FlatReader};
 use crate::{plain, Pair};
 use answers::{hex, Dialect, Judge};
 use std::fmt::Debug;
 
-pub const KINDS: u8 = 3;
+pub const KINDS: u8 = 4;
 
 /// The bytes of a case, taken from the front; 0 where there are no more.
 struct Input<'a>(&'a [u8]);
@@ -78,35 +78,55 @@ fn read(pair: &mut Pair, image: &[u8]) -> Said {
         .map_or(Ok(()), |how| Err(format!("under {}, {} bytes: {}\n{how}", pair.ours.dialect().name, image.len(), hex(image))))
 }
 
+fn tokens(i: &mut Input, d: &Dialect) -> Vec<u8> {
+    let mut all = vec![];
+    while !i.0.is_empty() {
+        all.push(token(i, d));
+    }
+    make::image(d, &all)
+}
+
 /// One of the four, or one with a field or all fields made up.
-fn dialect(i: &mut Input, four: &[Pair]) -> FlatDialect {
-    let mut d = ours::flat(four[i.byte() as usize % 4].ours.dialect());
+fn dialect(i: &mut Input, four: &[Pair]) -> Dialect {
+    let mut d = four[i.byte() as usize % 4].ours.dialect();
     match i.byte() % 8 {
         0 => {
             d.magic.copy_from_slice(&i.number(8).to_le_bytes());
             d.length = i.near(8);
-            [d.value, d.tombstone, d.weak, d.indirection, d.none] = std::array::from_fn(|_| i.byte());
+            d.codes = std::array::from_fn(|_| i.byte());
+            d.none = i.byte();
         }
         1 => d.length = i.near(d.length),
         2 => d.magic[i.byte() as usize % 8] = i.byte(),
-        3 => d.weak = i.byte(),
+        3 => d.codes[i.byte() as usize % 4] = i.byte(),
         _ => {}
     }
     d
 }
 
-fn made_up(four: &mut [Pair], i: &mut Input) -> Said {
-    let d = dialect(i, four);
-    let (at, ended, outcome) = (i.byte(), i.byte() % 4, i.byte() % 8);
-    let length = i.0.len();
-    let at = if at < 128 { at as usize % (length + 1) } else { i.near(length.saturating_sub(2)) };
-    let ended = [0, 0, 1, u32::MAX][ended as usize];
+/// A place: the beginning, anywhere in the image, or around its end.
+fn place(i: &mut Input, length: usize) -> usize {
+    match i.byte() {
+        0..=99 => 0,
+        b @ 100..=199 => (b - 100) as usize % (length + 1),
+        _ => i.near(length.saturating_sub(2)),
+    }
+}
+
+fn made_up(four: &mut [Pair], i: &mut Input, listed: bool) -> Said {
+    let given = dialect(i, four);
+    let d = ours::flat(given);
+    let head = &mut Input(i.take(12));
+    let made = if listed { tokens(i, &given) } else { i.0.to_vec() };
+    let image = &made[..];
+    let at = place(head, image.len());
+    let ended = [0, 0, 1, u32::MAX][head.byte() as usize % 4];
+    let outcome = head.byte() % 8;
     let reader = FlatReader { at, ended, outcome: if outcome == 7 { u32::MAX } else { outcome.into() } };
-    let image = i.0;
     let step = ours::step(image, reader, d);
     same("step", step, plain::step(image, reader, &d))?;
     same("decode", ours::decode(image, at, d), plain::decode(image, at, &d))?;
-    same("kept", ours::kept(length, reader), plain::kept(length, reader))?;
+    same("kept", ours::kept(image.len(), reader), plain::kept(image.len(), reader))?;
     let Some(pair) = four.iter_mut().find(|p| ours::flat(p.ours.dialect()) == d) else { return Ok(()) };
     if step.number != 0 || ended != 0 {
         return Ok(());
@@ -129,12 +149,9 @@ pub fn case(four: &mut [Pair], bytes: &[u8]) -> Said {
         1 => {
             let n = i.byte() as usize % 4;
             let d = four[n].ours.dialect();
-            let mut tokens = vec![];
-            while !i.0.is_empty() {
-                tokens.push(token(i, &d));
-            }
-            read(&mut four[n], &make::image(&d, &tokens))
+            let image = tokens(i, &d);
+            read(&mut four[n], &image)
         }
-        _ => made_up(four, i),
+        kind => made_up(four, i, kind == 3),
     }
 }

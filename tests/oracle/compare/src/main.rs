@@ -6,11 +6,12 @@
 //! compare image DIALECT HEX   what both sides say of one image
 //! compare differences         what docs/DIFFERENCES.md lists, both sides run
 //! compare list DIALECT FOLDER the fixed list: stdin and stdout of the program that replays it
+//! compare seeds FOLDER        inputs for the fuzzer to start from
 //! compare spoilt              the library made to answer wrongly: the difference must be found and shrunk to one byte
 //!
 //! A difference prints the smallest image that shows it and what both sides say, and ends with status 1.
 use answers::{hex, unhex, Judge};
-use compare::cases::case;
+use compare::cases::{case, KINDS};
 use compare::check::{difference, Tally};
 use compare::make::{self, FAMILIES};
 use compare::random::Random;
@@ -84,15 +85,39 @@ fn random(pairs: &mut [Pair], seed: u64, count: u64) -> u64 {
     seen.images
 }
 
+/// A case of a kind, with an image of a family where it has one.
+fn made(pairs: &[Pair], r: &mut Random, kind: u8, number: u64) -> Vec<u8> {
+    let which = r.below(pairs.len());
+    let family = FAMILIES[number as usize % FAMILIES.len()];
+    let mut bytes = vec![kind, which as u8];
+    if kind > 1 {
+        let head = 13 + r.below(9);
+        bytes.extend(r.bytes(head));
+    }
+    if kind % 2 == 0 {
+        bytes.extend(make::random(r, &pairs[which].ours.dialect(), family));
+    } else {
+        let list = r.below(200);
+        bytes.extend(r.bytes(list));
+    }
+    bytes
+}
+
+fn seeds(pairs: &[Pair], folder: &str) -> std::io::Result<()> {
+    let mut r = Random::new(1);
+    for number in 0..1200 {
+        let bytes = made(pairs, &mut r, (number % u64::from(KINDS)) as u8, number / u64::from(KINDS));
+        std::fs::write(format!("{folder}/seed-{number:04}"), bytes)?;
+    }
+    Ok(())
+}
+
 /// Made-up dialects and states over images of every family.
 fn cases(pairs: &mut [Pair], seed: u64, count: u64) -> Result<(), String> {
     let since = Instant::now();
     let mut r = Random::new(seed);
     for i in 0..count {
-        let d = pairs[r.below(pairs.len())].ours.dialect();
-        let mut bytes = r.bytes(24);
-        bytes[0] = 2;
-        bytes.extend(make::random(&mut r, &d, FAMILIES[i as usize % FAMILIES.len()]));
+        let bytes = made(pairs, &mut r, 2 + (i % 2) as u8, i / 2);
         if let Err(how) = case(pairs, &bytes) {
             let least = shrink(&bytes, |less| case(pairs, less).is_err());
             return Err(format!("DIFFERENCE (seed {seed}, number {i}): {}\n{}\nat first: {how}", hex(&least), case(pairs, &least).unwrap_err()));
@@ -163,6 +188,7 @@ fn run(words: &[String]) -> Result<(), String> {
             println!("{n} images and the Rust's answers are in {}", word(2)?);
             return Ok(());
         }
+        "seeds" => return seeds(&all, word(1)?).map_err(|e| e.to_string()),
         "cases" => return cases(&mut all, number(1)?, number(2)?),
         "image" => return image(&mut all, word(1)?, word(2)?),
         "spoilt" => return spoilt(&mut all),

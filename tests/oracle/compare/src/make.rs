@@ -67,7 +67,7 @@ pub fn image(d: &Dialect, tokens: &[Token]) -> Vec<u8> {
                 };
                 bytes.push(3);
                 bytes.extend_from_slice(&sum.to_le_bytes());
-                bytes.extend_from_slice(d.magic);
+                bytes.extend_from_slice(d.trailer());
             }
             Token::Clear(keyspace) => {
                 bytes.push(4);
@@ -209,7 +209,7 @@ fn bytes(r: &mut Random, d: &Dialect) -> Vec<u8> {
             0..=2 => v.push(r.below(6) as u8),
             3 => v.push(d.codes[r.below(4)]),
             4 => v.push(d.none),
-            5 => v.extend_from_slice(d.magic),
+            5 => v.extend_from_slice(d.trailer()),
             6 => v.extend_from_slice(&[0; 3]),
             _ => v.push(r.byte()),
         }
@@ -399,7 +399,7 @@ pub fn large(d: &Dialect, r: &mut Random, mut each: impl FnMut(&[u8])) {
     let mut bytes = image(d, &[Token::Start { count: 1, seqno: 7 }, item(d, 2, 0, b"a", b"xy"), Token::End(Sum::Anew)]);
     bytes.resize(LARGE, 0);
     each(&bytes);
-    let value = r.bytes(LARGE - 13 - 22 - 9 - d.magic.len());
+    let value = r.bytes(LARGE - 13 - 22 - 9 - d.length);
     let mut bytes = image(d, &[Token::Start { count: 1, seqno: 7 }, item(d, 2, 0, b"a", &value), Token::End(Sum::Anew)]);
     assert!(bytes.len() == LARGE);
     each(&bytes);

@@ -76,17 +76,8 @@ pub fn kept(length: usize, reader: FlatReader) -> usize {
 }
 
 pub fn flat(d: Dialect) -> FlatDialect {
-    let mut magic = [0; 8];
-    magic[..d.magic.len()].copy_from_slice(d.magic);
-    FlatDialect {
-        magic,
-        length: d.magic.len(),
-        value: d.codes[0],
-        tombstone: d.codes[1],
-        weak: d.codes[2],
-        indirection: d.codes[3],
-        none: d.none,
-    }
+    let [value, tombstone, weak, indirection] = d.codes;
+    FlatDialect { magic: d.magic, length: d.length, value, tombstone, weak, indirection, none: d.none }
 }
 
 pub const BEGIN: FlatReader = FlatReader { at: 0, ended: 0, outcome: 0 };
