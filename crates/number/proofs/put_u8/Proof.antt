@@ -1,0 +1,19 @@
+use mathlib.Core.List.{[], _∷_}
+use lib.Seq.{sets-eq}
+use borrow.Author.Needs.{needs}
+use Rattle.number.proofs.put_u8.Statement.{statement}
+use Rattle.number.proofs.put_u8.Tie as tie
+use Rattle.number.proofs.put_u8.Reads as reads
+use Rattle.number.proofs.put_u8.Lts as lts
+
+slice-write-buf : tie.Need-slice-write-buf
+slice-write-buf c = search needs
+
+same-length : tie.Need-same-length
+same-length c = search needs
+
+returns : tie.Need-returns
+returns c = sets-eq (c .args .v ∷ []) (c .args .buf .now) 0 (c .pre)
+
+pub put-u8-spec : {M : Type 1} → statement M
+put-u8-spec = tie.close (tie.spec slice-write-buf same-length returns)

@@ -1,0 +1,40 @@
+use borrow.Author.Needs.{needs}
+use Rattle.refusal.specs.Refusal.{bufferRefusal}
+use Rattle.refusal.proofs.buffer_refusal.Statement.{statement}
+use Rattle.refusal.proofs.buffer_refusal.Tie as tie
+use Rattle.refusal.proofs.buffer_refusal.Reads as reads
+use Rattle.refusal.proofs.buffer_refusal.Lts as lts
+use Rattle.dialect.proofs.Dialect.is_good.Reads as is-good-reads
+use Rattle.refusal.proofs.above_limit.Reads as above-limit-reads
+use Rattle.refusal.proofs.first.Reads as first-reads
+use Rattle.refusal.proofs.when.Reads as when-reads
+
+is-good-requires : tie.Need-is-good-requires
+is-good-requires c κs = search needs
+
+when-requires : tie.Need-when-requires
+when-requires c κs = search needs
+
+above-limit-requires : tie.Need-above-limit-requires
+above-limit-requires c κs = search needs
+
+when-requires-2 : tie.Need-when-requires-2
+when-requires-2 c κs = search needs
+
+first-requires : tie.Need-first-requires
+first-requires c κs = search needs
+
+returns : tie.Need-returns
+unfolding bufferRefusal
+returns c = cc
+
+pub buffer-refusal-spec : {M : Type 1} → statement M
+buffer-refusal-spec =
+    tie.close
+    (tie.spec
+    is-good-requires
+    when-requires
+    above-limit-requires
+    when-requires-2
+    first-requires
+    returns)
