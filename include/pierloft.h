@@ -104,10 +104,10 @@ typedef struct {
     size_t end;  /* .. to here */
     size_t next; /* and the next batch begins here */
     pierloft_reader reader; /* to hand to the next step */
-} pierloft_step_answer;
+} pierloft_stepped;
 
 /* The next batch of an image, or the end of its reading. An ended state answers its outcome again. */
-pierloft_step_answer pierloft_step(const uint8_t *image, size_t length, pierloft_reader reader, pierloft_dialect dialect);
+pierloft_stepped pierloft_step(const uint8_t *image, size_t length, pierloft_reader reader, pierloft_dialect dialect);
 
 /* A number of bytes. */
 typedef struct {

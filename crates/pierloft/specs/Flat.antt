@@ -7,12 +7,17 @@ use Rattle.entry.specs.declared.Decoded.{Decoded}
 use Rattle.entry.specs.declared.Decoded.the-variants as decoded
 use Rattle.reader.specs.declared.Answer.{Answer}
 use Rattle.reader.specs.declared.Answer.the-variants as answer
+use Rattle.reader.specs.declared.Keep.{Keep}
+use Rattle.reader.specs.declared.Keep.the-variants as keeps
 use Rattle.reader.specs.declared.Reader.{Reader}
 use Rattle.reader.specs.declared.Stepped.{Stepped}
+use Rattle.pierloft.specs.declared.FlatCount.{FlatCount}
 use Rattle.pierloft.specs.declared.FlatDialect.{FlatDialect}
 use Rattle.pierloft.specs.declared.FlatEntry.{FlatEntry}
 use Rattle.pierloft.specs.declared.FlatReader.{FlatReader}
-use Rattle.pierloft.specs.declared.FlatStep.{FlatStep}
+use Rattle.pierloft.specs.declared.FlatStepped.{FlatStepped}
+
+-- ---- dialects
 
 abbrev pub dialectOf : FlatDialect → Dialect
 dialectOf d =
@@ -22,36 +27,66 @@ abbrev pub flatDialect : Dialect → FlatDialect
 flatDialect d =
     record { magic = d .magic; length = d .length; value = d .value; tombstone = d .tombstone; weak = d .weak; indirection = d .indirection; none = d .none }
 
+-- ---- entries
+
+-- of a code of a good dialect: 0 value, 1 tombstone, 2 weak tombstone, 3 indirection
+unfoldable pub typeNumber : Dialect → ℕ → ℕ
+typeNumber d code = cond (eqb code (d .value)) 0 (cond (eqb code (d .tombstone)) 1 (cond (eqb code (d .weak)) 2 3))
+
+-- no entry: a number
+abbrev pub noEntry : ℕ → FlatEntry
+noEntry n =
+    record { number = n; tag = 0; «value_type» = 0; count = 0; seqno = 0; keyspace = 0; checksum = 0; «key_at» = 0; «key_len» = 0; «value_at» = 0; «value_len» = 0; next = 0 }
+
+-- an entry's tag and its values; what an entry does not have is 0
+abbrev pub flatStart : ℕ → ℕ → ℕ → FlatEntry
+flatStart count seqno next =
+    record { number = 0; tag = 1; «value_type» = 0; count = count; seqno = seqno; keyspace = 0; checksum = 0; «key_at» = 0; «key_len» = 0; «value_at» = 0; «value_len» = 0; next = next }
+
+abbrev pub flatItem : ℕ → ℕ → ℕ → ℕ → ℕ → ℕ → ℕ → FlatEntry
+flatItem type keyspace key keyLength value valueLength next =
+    record { number = 0; tag = 2; «value_type» = type; count = 0; seqno = 0; keyspace = keyspace; checksum = 0; «key_at» = key; «key_len» = keyLength; «value_at» = value; «value_len» = valueLength; next = next }
+
+abbrev pub flatEnd : ℕ → ℕ → FlatEntry
+flatEnd checksum next =
+    record { number = 0; tag = 3; «value_type» = 0; count = 0; seqno = 0; keyspace = 0; checksum = checksum; «key_at» = 0; «key_len» = 0; «value_at» = 0; «value_len» = 0; next = next }
+
+abbrev pub flatClear : ℕ → ℕ → FlatEntry
+flatClear keyspace next =
+    record { number = 0; tag = 4; «value_type» = 0; count = 0; seqno = 0; keyspace = keyspace; checksum = 0; «key_at» = 0; «key_len» = 0; «value_at» = 0; «value_len» = 0; next = next }
+
+abbrev pub flatEntry : Dialect → Decoded → FlatEntry
+flatEntry d (decoded.Start count seqno next) = flatStart count seqno next
+flatEntry d (decoded.Item code keyspace key keyLength value valueLength next) =
+    flatItem (typeNumber d code) keyspace key keyLength value valueLength next
+flatEntry d (decoded.End checksum next) = flatEnd checksum next
+flatEntry d (decoded.Clear keyspace next) = flatClear keyspace next
+flatEntry d (decoded.Fault n) = noEntry n
+flatEntry d (decoded.Refused n) = noEntry n
+
+-- ---- reading
+
 -- a flag is 0 or anything else
 abbrev pub readerOf : FlatReader → Reader
-readerOf r = record { at = r .at; ended = not (eqb (r .ended) 0); outcome = r .outcome }
+readerOf r = record { position = r .position; ended = not (eqb (r .ended) 0); outcome = r .outcome }
 
 abbrev pub flatReader : Reader → FlatReader
-flatReader r = record { at = r .at; ended = cond (r .ended) 1 0; outcome = r .outcome }
+flatReader r = record { position = r .position; ended = cond (r .ended) 1 0; outcome = r .outcome }
 
--- an entry's tag and its values, or a number; what an entry does not have is 0
-abbrev pub flatEntry : Decoded → FlatEntry
-flatEntry (decoded.Start c q j) =
-    record { number = 0; tag = 1; «value_type» = 0; count = c; seqno = q; keyspace = 0; checksum = 0; «key_at» = 0; «key_len» = 0; «value_at» = 0; «value_len» = 0; next = j }
-flatEntry (decoded.Item ty ks ka kl va vl j) =
-    record { number = 0; tag = 2; «value_type» = ty; count = 0; seqno = 0; keyspace = ks; checksum = 0; «key_at» = ka; «key_len» = kl; «value_at» = va; «value_len» = vl; next = j }
-flatEntry (decoded.End x j) =
-    record { number = 0; tag = 3; «value_type» = 0; count = 0; seqno = 0; keyspace = 0; checksum = x; «key_at» = 0; «key_len» = 0; «value_at» = 0; «value_len» = 0; next = j }
-flatEntry (decoded.Clear ks j) =
-    record { number = 0; tag = 4; «value_type» = 0; count = 0; seqno = 0; keyspace = ks; checksum = 0; «key_at» = 0; «key_len» = 0; «value_at» = 0; «value_len» = 0; next = j }
-flatEntry (decoded.Fault n) =
-    record { number = n; tag = 0; «value_type» = 0; count = 0; seqno = 0; keyspace = 0; checksum = 0; «key_at» = 0; «key_len» = 0; «value_at» = 0; «value_len» = 0; next = 0 }
-flatEntry (decoded.Refused n) =
-    record { number = n; tag = 0; «value_type» = 0; count = 0; seqno = 0; keyspace = 0; checksum = 0; «key_at» = 0; «key_len» = 0; «value_at» = 0; «value_len» = 0; next = 0 }
+abbrev pub noBatch : ℕ → ℕ → FlatReader → FlatStepped
+noBatch number outcome goes =
+    record { number = number; accepted = 0; outcome = outcome; seqno = 0; count = 0; body = 0; end = 0; next = 0; reader = goes }
 
--- what a step answers, the state that was handed in and the one that comes back; a refusal gives the first back as it came
-abbrev pub flatAnswer : FlatReader → FlatReader → Answer → FlatStep
-flatAnswer came after (answer.Accepted q c b e j) =
-    record { number = 0; accepted = 1; outcome = 0; seqno = q; count = c; body = b; end = e; next = j; reader = after }
-flatAnswer came after (answer.Ended o) =
-    record { number = 0; accepted = 0; outcome = o; seqno = 0; count = 0; body = 0; end = 0; next = 0; reader = after }
-flatAnswer came after (answer.Refused n) =
-    record { number = n; accepted = 0; outcome = 0; seqno = 0; count = 0; body = 0; end = 0; next = 0; reader = came }
+-- a step's answer, between the state that came and the one that goes; a refusal gives the first back as it came
+abbrev pub flatAnswer : FlatReader → FlatReader → Answer → FlatStepped
+flatAnswer came goes (answer.Accepted q c b e j) =
+    record { number = 0; accepted = 1; outcome = 0; seqno = q; count = c; body = b; end = e; next = j; reader = goes }
+flatAnswer came goes (answer.Ended o) = noBatch 0 o goes
+flatAnswer came goes (answer.Refused n) = noBatch n 0 came
 
-abbrev pub flatStep : FlatReader → Stepped → FlatStep
-flatStep came s = flatAnswer came (flatReader (s .reader)) (s .answer)
+abbrev pub flatStepped : FlatReader → Stepped → FlatStepped
+flatStepped came s = flatAnswer came (flatReader (s .reader)) (s .answer)
+
+abbrev pub flatKeep : Keep → FlatCount
+flatKeep (keeps.Bytes n) = record { number = 0; bytes = n }
+flatKeep (keeps.Refused n) = record { number = n; bytes = 0 }

@@ -1,15 +1,17 @@
-// What Rust and C call: numbers, slices and structs of numbers. include/pierloft.h declares and documents each function.
+// What Rust and C call: numbers, slices and structs of numbers. include/pierloft.h declares and documents each exported function. A layer
+// over the calls of the other crates and no more: enums become numbers, and a flag is 0 or not. Public: the functions pierloft_*.
 ghost use mathlib.Core.Path.{_≡_};
 ghost use mathlib.Core.Bool.{cond, not};
-ghost use Rattle.dialect.specs.Dialect.{good};
+ghost use Rattle.dialect.specs.Dialect.{good, SHIPPED as shippedDialect, TEST as testDialect};
 ghost use Rattle.refusal.specs.Refusal.{whenOf};
 ghost use Rattle.entry.specs.Decoded.{decoded};
-ghost use Rattle.xxh3.specs.Xxh3.{secret, hash};
-ghost use Rattle.reader.specs.Reading.{stepped, keep};
-ghost use Rattle.pierloft.specs.Flat.{dialectOf, flatDialect, readerOf, flatReader, flatEntry, flatStep};
+ghost use Rattle.xxh3.specs.Xxh3.{hash, secret as defaultSecret};
+ghost use Rattle.reader.specs.Reading.{stepped, keptOf};
+ghost use Rattle.pierloft.specs.Flat.{dialectOf, flatDialect, typeNumber, noEntry, flatStart, flatItem, flatEnd, flatClear, flatEntry, noBatch, readerOf, flatReader, flatStepped, flatKeep};
 use dialect::Dialect;
 use entry::Decoded;
 use reader::Answer;
+use reader::Keep;
 use reader::Reader;
 use reader::Stepped;
 
@@ -22,13 +24,6 @@ pub struct FlatDialect {
     pub weak: u8,
     pub indirection: u8,
     pub none: u8,
-}
-
-#[repr(C)]
-pub struct FlatReader {
-    pub at: usize,
-    pub ended: u32,
-    pub outcome: u32,
 }
 
 #[repr(C)]
@@ -48,7 +43,14 @@ pub struct FlatEntry {
 }
 
 #[repr(C)]
-pub struct FlatStep {
+pub struct FlatReader {
+    pub position: usize,
+    pub ended: u32,
+    pub outcome: u32,
+}
+
+#[repr(C)]
+pub struct FlatStepped {
     pub number: u32,
     pub accepted: u32,
     pub outcome: u32,
@@ -59,6 +61,14 @@ pub struct FlatStep {
     pub next: usize,
     pub reader: FlatReader,
 }
+
+#[repr(C)]
+pub struct FlatCount {
+    pub number: u32,
+    pub bytes: usize,
+}
+
+// ---- dialects
 
 fn dialect_of(d: FlatDialect) -> Dialect
     ensures { λ r. ⌜ r ≡ dialectOf d ⌝ }
@@ -90,11 +100,49 @@ fn flat_dialect(d: Dialect) -> FlatDialect
     }
 }
 
-fn flat_entry(e: Decoded) -> FlatEntry
-    ensures { λ r. ⌜ r ≡ flatEntry e ⌝ }
+#[no_mangle]
+pub extern "C" fn pierloft_shipped() -> FlatDialect
+    ensures { λ r. ⌜ r ≡ flatDialect shippedDialect ⌝ }
 {
-    let none = FlatEntry {
-        number: 0,
+    flat_dialect(Dialect::shipped())
+}
+
+#[no_mangle]
+pub extern "C" fn pierloft_test() -> FlatDialect
+    ensures { λ r. ⌜ r ≡ flatDialect testDialect ⌝ }
+{
+    flat_dialect(Dialect::test())
+}
+
+#[no_mangle]
+pub extern "C" fn pierloft_check(d: FlatDialect) -> u32
+    ensures { λ r. ⌜ r ≡ whenOf (not (good (dialectOf d))) 20 ⌝ }
+{
+    refusal::when(!dialect_of(d).is_good(), 20)
+}
+
+// ---- entries
+
+fn type_number(d: Dialect, code: u8) -> u8
+    ensures { λ r. ⌜ r ≡ typeNumber d code ⌝ }
+{
+    if code == d.value {
+        return 0;
+    }
+    if code == d.tombstone {
+        return 1;
+    }
+    if code == d.weak {
+        return 2;
+    }
+    3
+}
+
+fn no_entry(number: u32) -> FlatEntry
+    ensures { λ r. ⌜ r ≡ noEntry number ⌝ }
+{
+    FlatEntry {
+        number,
         tag: 0,
         value_type: 0,
         count: 0,
@@ -106,16 +154,98 @@ fn flat_entry(e: Decoded) -> FlatEntry
         value_at: 0,
         value_len: 0,
         next: 0,
-    };
+    }
+}
+
+fn flat_item(
+    value_type: u8,
+    keyspace: u64,
+    key_at: usize,
+    key_len: usize,
+    value_at: usize,
+    value_len: usize,
+    next: usize,
+) -> FlatEntry
+    ensures { λ r. ⌜ r ≡ flatItem «value_type» keyspace «key_at» «key_len» «value_at» «value_len» next ⌝ }
+{
+    FlatEntry {
+        number: 0,
+        tag: 2,
+        value_type,
+        count: 0,
+        seqno: 0,
+        keyspace,
+        checksum: 0,
+        key_at,
+        key_len,
+        value_at,
+        value_len,
+        next,
+    }
+}
+
+fn flat_start(count: u64, seqno: u64, next: usize) -> FlatEntry
+    ensures { λ r. ⌜ r ≡ flatStart count seqno next ⌝ }
+{
+    FlatEntry {
+        number: 0,
+        tag: 1,
+        value_type: 0,
+        count,
+        seqno,
+        keyspace: 0,
+        checksum: 0,
+        key_at: 0,
+        key_len: 0,
+        value_at: 0,
+        value_len: 0,
+        next,
+    }
+}
+
+fn flat_end(checksum: u64, next: usize) -> FlatEntry
+    ensures { λ r. ⌜ r ≡ flatEnd checksum next ⌝ }
+{
+    FlatEntry {
+        number: 0,
+        tag: 3,
+        value_type: 0,
+        count: 0,
+        seqno: 0,
+        keyspace: 0,
+        checksum,
+        key_at: 0,
+        key_len: 0,
+        value_at: 0,
+        value_len: 0,
+        next,
+    }
+}
+
+fn flat_clear(keyspace: u64, next: usize) -> FlatEntry
+    ensures { λ r. ⌜ r ≡ flatClear keyspace next ⌝ }
+{
+    FlatEntry {
+        number: 0,
+        tag: 4,
+        value_type: 0,
+        count: 0,
+        seqno: 0,
+        keyspace,
+        checksum: 0,
+        key_at: 0,
+        key_len: 0,
+        value_at: 0,
+        value_len: 0,
+        next,
+    }
+}
+
+fn flat_entry(d: Dialect, e: Decoded) -> FlatEntry
+    ensures { λ r. ⌜ r ≡ flatEntry d e ⌝ }
+{
     match e {
-        Decoded::Start { count, seqno, next } => {
-            let mut r = none;
-            r.tag = 1;
-            r.count = count;
-            r.seqno = seqno;
-            r.next = next;
-            r
-        }
+        Decoded::Start { count, seqno, next } => flat_start(count, seqno, next),
         Decoded::Item {
             value_type,
             keyspace,
@@ -124,85 +254,31 @@ fn flat_entry(e: Decoded) -> FlatEntry
             value_at,
             value_len,
             next,
-        } => {
-            let mut r = none;
-            r.tag = 2;
-            r.value_type = value_type;
-            r.keyspace = keyspace;
-            r.key_at = key_at;
-            r.key_len = key_len;
-            r.value_at = value_at;
-            r.value_len = value_len;
-            r.next = next;
-            r
-        }
-        Decoded::End { checksum, next } => {
-            let mut r = none;
-            r.tag = 3;
-            r.checksum = checksum;
-            r.next = next;
-            r
-        }
-        Decoded::Clear { keyspace, next } => {
-            let mut r = none;
-            r.tag = 4;
-            r.keyspace = keyspace;
-            r.next = next;
-            r
-        }
-        Decoded::Fault(n) => {
-            let mut r = none;
-            r.number = n;
-            r
-        }
-        Decoded::Refused(n) => {
-            let mut r = none;
-            r.number = n;
-            r
-        }
+        } => flat_item(
+            type_number(d, value_type),
+            keyspace,
+            key_at,
+            key_len,
+            value_at,
+            value_len,
+            next,
+        ),
+        Decoded::End { checksum, next } => flat_end(checksum, next),
+        Decoded::Clear { keyspace, next } => flat_clear(keyspace, next),
+        Decoded::Fault(n) => no_entry(n),
+        Decoded::Refused(n) => no_entry(n),
     }
-}
-
-#[no_mangle]
-pub extern "C" fn pierloft_shipped() -> FlatDialect {
-    flat_dialect(Dialect::SHIPPED)
-}
-
-#[no_mangle]
-pub extern "C" fn pierloft_test() -> FlatDialect {
-    flat_dialect(Dialect::TEST)
-}
-
-#[no_mangle]
-pub extern "C" fn pierloft_dialect(d: FlatDialect) -> u32
-    ensures { λ r. ⌜ r ≡ whenOf (not (good (dialectOf d))) 20 ⌝ }
-{
-    refusal::when(!dialect_of(d).is_good(), 20)
 }
 
 #[no_mangle]
 pub extern "C" fn pierloft_decode(image: &[u8], at: usize, d: FlatDialect) -> FlatEntry
-    ensures { λ r. ⌜ r ≡ flatEntry (decoded (dialectOf d) (now (image .entry)) at) ⌝ }
+    ensures { λ r. ⌜ r ≡ flatEntry (dialectOf d) (decoded (dialectOf d) (now (image .entry)) at) ⌝ }
 {
-    flat_entry(entry::decode(image, at, dialect_of(d)))
+    let dialect = dialect_of(d);
+    flat_entry(dialect, entry::decode(image, at, dialect))
 }
 
-fn reader_of(r: FlatReader) -> Reader
-    ensures { λ s. ⌜ s ≡ readerOf r ⌝ }
-{
-    Reader {
-        at: r.at,
-        ended: r.ended != 0,
-        outcome: r.outcome,
-    }
-}
-
-#[no_mangle]
-pub extern "C" fn pierloft_kept(length: usize, reader: FlatReader) -> usize
-    ensures { λ r. ⌜ r ≡ keep length (readerOf reader) ⌝ }
-{
-    reader::kept(length, reader_of(reader))
-}
+// ---- reading
 
 fn flag(x: bool) -> u32
     ensures { λ r. ⌜ r ≡ cond x 1 0 ⌝ }
@@ -210,18 +286,28 @@ fn flag(x: bool) -> u32
     x as u32
 }
 
+fn reader_of(r: FlatReader) -> Reader
+    ensures { λ s. ⌜ s ≡ readerOf r ⌝ }
+{
+    Reader {
+        position: r.position,
+        ended: r.ended != 0,
+        outcome: r.outcome,
+    }
+}
+
 fn flat_reader(r: Reader) -> FlatReader
     ensures { λ s. ⌜ s ≡ flatReader r ⌝ }
 {
     FlatReader {
-        at: r.at,
+        position: r.position,
         ended: flag(r.ended),
         outcome: r.outcome,
     }
 }
 
-fn flat_step(came: FlatReader, s: Stepped) -> FlatStep
-    ensures { λ r. ⌜ r ≡ flatStep came s ⌝ }
+fn flat_stepped(came: FlatReader, s: Stepped) -> FlatStepped
+    ensures { λ r. ⌜ r ≡ flatStepped came s ⌝ }
 {
     let answer = s.answer;
     let reader = s.reader;
@@ -232,7 +318,7 @@ fn flat_step(came: FlatReader, s: Stepped) -> FlatStep
             body,
             end,
             next,
-        } => FlatStep {
+        } => FlatStepped {
             number: 0,
             accepted: 1,
             outcome: 0,
@@ -243,37 +329,49 @@ fn flat_step(came: FlatReader, s: Stepped) -> FlatStep
             next,
             reader: flat_reader(reader),
         },
-        Answer::Ended(outcome) => FlatStep {
-            number: 0,
-            accepted: 0,
-            outcome,
-            seqno: 0,
-            count: 0,
-            body: 0,
-            end: 0,
-            next: 0,
-            reader: flat_reader(reader),
-        },
-        Answer::Refused(number) => FlatStep {
-            number,
-            accepted: 0,
-            outcome: 0,
-            seqno: 0,
-            count: 0,
-            body: 0,
-            end: 0,
-            next: 0,
-            reader: came,
-        },
+        Answer::Ended(outcome) => no_batch(0, outcome, flat_reader(reader)),
+        Answer::Refused(number) => no_batch(number, 0, came),
+    }
+}
+
+fn no_batch(number: u32, outcome: u32, reader: FlatReader) -> FlatStepped
+    ensures { λ r. ⌜ r ≡ noBatch number outcome reader ⌝ }
+{
+    FlatStepped {
+        number,
+        accepted: 0,
+        outcome,
+        seqno: 0,
+        count: 0,
+        body: 0,
+        end: 0,
+        next: 0,
+        reader,
     }
 }
 
 #[no_mangle]
-pub extern "C" fn pierloft_step(image: &[u8], reader: FlatReader, d: FlatDialect) -> FlatStep
-    ensures { λ r. ⌜ r ≡ flatStep reader (stepped (dialectOf d) (hash secret) (now (image .entry)) (readerOf reader)) ⌝ }
+pub extern "C" fn pierloft_step(image: &[u8], reader: FlatReader, d: FlatDialect) -> FlatStepped
+    ensures { λ r. ⌜ r ≡ flatStepped reader (stepped (dialectOf d) (hash defaultSecret) (now (image .entry)) (readerOf reader)) ⌝ }
 {
-    flat_step(
+    flat_stepped(
         reader,
         reader::step(image, reader_of(reader), dialect_of(d)),
     )
+}
+
+fn flat_keep(k: Keep) -> FlatCount
+    ensures { λ r. ⌜ r ≡ flatKeep k ⌝ }
+{
+    match k {
+        Keep::Bytes(bytes) => FlatCount { number: 0, bytes },
+        Keep::Refused(number) => FlatCount { number, bytes: 0 },
+    }
+}
+
+#[no_mangle]
+pub extern "C" fn pierloft_kept(length: usize, reader: FlatReader) -> FlatCount
+    ensures { λ r. ⌜ r ≡ flatKeep (keptOf length (readerOf reader)) ⌝ }
+{
+    flat_keep(reader::kept(length, reader_of(reader)))
 }

@@ -1,7 +1,3 @@
-use mathlib.Core.Path.{ap, _∙_}
-use Rattle.dialect.specs.declared.Dialect.{Dialect}
-use Rattle.entry.specs.Decoded.{decoded}
-use Rattle.pierloft.specs.Flat.{flatEntry}
 use borrow.Author.Needs.{needs}
 use Rattle.pierloft.proofs.pierloft_decode.Statement.{statement}
 use Rattle.pierloft.proofs.pierloft_decode.Tie as tie
@@ -21,9 +17,7 @@ flat-entry-requires : tie.Need-flat-entry-requires
 flat-entry-requires c κs = search needs
 
 returns : tie.Need-returns
-returns c =
-    let a = c .before .before .before .before .args in
-    c .flat-entry .ensures ∙ ap flatEntry (c .before .decode .ensures .0 ∙ ap (λ (d : Dialect). decoded d (a .image .now) (a .at)) (c .before .before .dialect-of .ensures))
+returns c = cc
 
 pub pierloft-decode-spec : {M : Type 1} → statement M
 pierloft-decode-spec =

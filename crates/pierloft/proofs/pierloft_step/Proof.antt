@@ -4,7 +4,7 @@ use Rattle.pierloft.proofs.pierloft_step.Tie as tie
 use Rattle.pierloft.proofs.pierloft_step.Reads as reads
 use Rattle.pierloft.proofs.pierloft_step.Lts as lts
 use Rattle.pierloft.proofs.dialect_of.Reads as dialect-of-reads
-use Rattle.pierloft.proofs.flat_step.Reads as flat-step-reads
+use Rattle.pierloft.proofs.flat_stepped.Reads as flat-stepped-reads
 use Rattle.pierloft.proofs.reader_of.Reads as reader-of-reads
 use Rattle.reader.proofs.step.Reads as step-reads
 
@@ -17,8 +17,8 @@ dialect-of-requires c κs = search needs
 step-requires : tie.Need-step-requires
 step-requires c κs = search needs
 
-flat-step-requires : tie.Need-flat-step-requires
-flat-step-requires c κs = search needs
+flat-stepped-requires : tie.Need-flat-stepped-requires
+flat-stepped-requires c κs = search needs
 
 returns : tie.Need-returns
 returns c = cc
@@ -26,4 +26,4 @@ returns c = cc
 pub pierloft-step-spec : {M : Type 1} → statement M
 pierloft-step-spec =
     tie.close
-    (tie.spec reader-of-requires dialect-of-requires step-requires flat-step-requires returns)
+    (tie.spec reader-of-requires dialect-of-requires step-requires flat-stepped-requires returns)

@@ -122,7 +122,7 @@ fn made_up(four: &mut [Pair], i: &mut Input, listed: bool) -> Said {
     let at = place(head, image.len());
     let ended = [0, 0, 1, u32::MAX][head.byte() as usize % 4];
     let outcome = head.byte() % 8;
-    let reader = FlatReader { at, ended, outcome: if outcome == 7 { u32::MAX } else { outcome.into() } };
+    let reader = FlatReader { position: at, ended, outcome: if outcome == 7 { u32::MAX } else { outcome.into() } };
     let step = ours::step(image, reader, d);
     same("step", step, plain::step(image, reader, &d))?;
     same("decode", ours::decode(image, at, d), plain::decode(image, at, &d))?;

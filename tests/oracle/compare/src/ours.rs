@@ -16,7 +16,7 @@ pub struct FlatDialect {
 #[repr(C)]
 #[derive(Clone, Copy, Debug, PartialEq, Eq)]
 pub struct FlatReader {
-    pub at: usize,
+    pub position: usize,
     pub ended: u32,
     pub outcome: u32,
 }
@@ -40,7 +40,7 @@ pub struct FlatEntry {
 
 #[repr(C)]
 #[derive(Clone, Copy, Debug, PartialEq, Eq)]
-pub struct FlatStep {
+pub struct FlatStepped {
     pub number: u32,
     pub accepted: u32,
     pub outcome: u32,
@@ -52,13 +52,20 @@ pub struct FlatStep {
     pub reader: FlatReader,
 }
 
+#[repr(C)]
+#[derive(Clone, Copy, Debug, PartialEq, Eq)]
+pub struct FlatCount {
+    pub number: u32,
+    pub bytes: usize,
+}
+
 mod c {
-    use super::{FlatDialect, FlatEntry, FlatReader, FlatStep};
+    use super::{FlatCount, FlatDialect, FlatEntry, FlatReader, FlatStepped};
 
     extern "C" {
         pub fn pierloft_decode(image: *const u8, length: usize, at: usize, dialect: FlatDialect) -> FlatEntry;
-        pub fn pierloft_step(image: *const u8, length: usize, reader: FlatReader, dialect: FlatDialect) -> FlatStep;
-        pub fn pierloft_kept(length: usize, reader: FlatReader) -> usize;
+        pub fn pierloft_step(image: *const u8, length: usize, reader: FlatReader, dialect: FlatDialect) -> FlatStepped;
+        pub fn pierloft_kept(length: usize, reader: FlatReader) -> FlatCount;
     }
 }
 
@@ -67,11 +74,11 @@ pub fn decode(image: &[u8], at: usize, dialect: FlatDialect) -> FlatEntry {
     unsafe { c::pierloft_decode(image.as_ptr(), image.len(), at, dialect) }
 }
 
-pub fn step(image: &[u8], reader: FlatReader, dialect: FlatDialect) -> FlatStep {
+pub fn step(image: &[u8], reader: FlatReader, dialect: FlatDialect) -> FlatStepped {
     unsafe { c::pierloft_step(image.as_ptr(), image.len(), reader, dialect) }
 }
 
-pub fn kept(length: usize, reader: FlatReader) -> usize {
+pub fn kept(length: usize, reader: FlatReader) -> FlatCount {
     unsafe { c::pierloft_kept(length, reader) }
 }
 
@@ -80,7 +87,22 @@ pub fn flat(d: Dialect) -> FlatDialect {
     FlatDialect { magic: d.magic, length: d.length, value, tombstone, weak, indirection, none: d.none }
 }
 
-pub const BEGIN: FlatReader = FlatReader { at: 0, ended: 0, outcome: 0 };
+pub const NOTHING: FlatEntry = FlatEntry {
+    number: 0,
+    tag: 0,
+    value_type: 0,
+    count: 0,
+    seqno: 0,
+    keyspace: 0,
+    checksum: 0,
+    key_at: 0,
+    key_len: 0,
+    value_at: 0,
+    value_len: 0,
+    next: 0,
+};
+
+pub const BEGIN: FlatReader = FlatReader { position: 0, ended: 0, outcome: 0 };
 
 /// The library under a dialect.
 pub struct Ours {
@@ -100,10 +122,9 @@ impl Ours {
             1 => Entry::Start { count: e.count, seqno: e.seqno },
             2 => {
                 assert!(e.key_at + e.key_len == e.value_at && e.value_at + e.value_len == e.next);
-                let code = self.dialect.codes.iter().position(|c| *c == e.value_type).expect("a code of the dialect");
                 Entry::Item(Item {
                     keyspace: e.keyspace,
-                    kind: KINDS[code],
+                    kind: KINDS[e.value_type as usize],
                     key: image[e.key_at..e.value_at].to_vec(),
                     value: image[e.value_at..e.next].to_vec(),
                 })
@@ -115,8 +136,8 @@ impl Ours {
     }
 
     /// A batch's body, walked entry by entry.
-    fn batch(&self, image: &[u8], at: usize, s: &FlatStep) -> Batch {
-        assert!(s.reader == FlatReader { at: s.next, ended: 0, outcome: 0 } && s.body == at + 13);
+    fn batch(&self, image: &[u8], at: usize, s: &FlatStepped) -> Batch {
+        assert!(s.reader == FlatReader { position: s.next, ended: 0, outcome: 0 } && s.body == at + 13);
         let mut entries = vec![];
         let mut place = s.body;
         while place < s.end {
@@ -143,16 +164,17 @@ impl Judge for Ours {
             let s = step(image, reader, self.flat);
             assert!(s.number == 0);
             if s.accepted == 1 {
-                batches.push(self.batch(image, reader.at, &s));
+                batches.push(self.batch(image, reader.position, &s));
                 reader = s.reader;
                 continue;
             }
-            let ended = FlatReader { at: reader.at, ended: 1, outcome: s.outcome };
+            let ended = FlatReader { position: reader.position, ended: 1, outcome: s.outcome };
             assert!(s.accepted == 0 && s.reader == ended);
             assert!(step(image, ended, self.flat) == s, "an ended state answers its outcome again");
-            let outcome = if self.spoilt && image.get(ended.at) == Some(&0) { 0 } else { s.outcome };
+            let outcome = if self.spoilt && image.get(ended.position) == Some(&0) { 0 } else { s.outcome };
             let kept = kept(image.len(), ended);
-            return Reading { batches, outcome, valid: ended.at, kept };
+            assert!(kept.number == 0);
+            return Reading { batches, outcome, valid: ended.position, kept: kept.bytes };
         }
     }
 
@@ -161,7 +183,7 @@ impl Judge for Ours {
         match e.number {
             0 => Decoded::Entry { entry: self.entry(image, &e), next: e.next },
             n => {
-                assert!(e == FlatEntry { number: n, tag: 0, value_type: 0, count: 0, seqno: 0, keyspace: 0, checksum: 0, key_at: 0, key_len: 0, value_at: 0, value_len: 0, next: 0 });
+                assert!(e == FlatEntry { number: n, ..NOTHING });
                 Decoded::Fault(n)
             }
         }

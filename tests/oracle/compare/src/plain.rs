@@ -1,6 +1,6 @@
 //! Document 01 once more, as plain Rust over any dialect and any state, for what fjall has no answer to: other dialects, made-up
 //! states, refusals, the writer's calls one by one. Where fjall has one, this is compared with it too.
-use crate::ours::{FlatDialect, FlatEntry, FlatReader, FlatStep};
+use crate::ours::{FlatCount, FlatDialect, FlatEntry, FlatReader, FlatStepped, NOTHING};
 use xxhash_rust::xxh3::xxh3_64;
 
 const LIMIT: usize = 0xffff_ffff;
@@ -21,21 +21,6 @@ pub fn good(d: &FlatDialect) -> bool {
 fn first(tests: &[(bool, u32)]) -> u32 {
     tests.iter().find(|t| t.0).map_or(0, |t| t.1)
 }
-
-pub const NOTHING: FlatEntry = FlatEntry {
-    number: 0,
-    tag: 0,
-    value_type: 0,
-    count: 0,
-    seqno: 0,
-    keyspace: 0,
-    checksum: 0,
-    key_at: 0,
-    key_len: 0,
-    value_at: 0,
-    value_len: 0,
-    next: 0,
-};
 
 /// Takes n bytes at a place and moves it on, or gives 30.
 fn take<'a>(image: &'a [u8], at: &mut usize, n: usize) -> Result<&'a [u8], u32> {
@@ -59,10 +44,8 @@ fn entry(image: &[u8], at: usize, d: &FlatDialect) -> Result<FlatEntry, u32> {
         }
         2 => {
             e.tag = 2;
-            e.value_type = take(image, p, 1)?[0];
-            if !codes(d).contains(&e.value_type) {
-                return Err(32);
-            }
+            let code = take(image, p, 1)?[0];
+            e.value_type = codes(d).iter().position(|c| *c == code).ok_or(32u32)? as u8;
             if take(image, p, 1)?[0] != d.none {
                 return Err(33);
             }
@@ -105,7 +88,7 @@ fn anew(image: &[u8], e: &FlatEntry, d: &FlatDialect, to: &mut Vec<u8>) {
         to.extend(e.keyspace.to_le_bytes());
         return;
     }
-    to.extend([2, e.value_type, d.none]);
+    to.extend([2, codes(d)[e.value_type as usize], d.none]);
     to.extend(e.keyspace.to_le_bytes());
     to.extend((e.key_len as u16).to_le_bytes());
     to.extend((e.value_len as u32).to_le_bytes());
@@ -141,37 +124,36 @@ fn batch(image: &[u8], at: usize, d: &FlatDialect) -> Result<[u64; 5], u32> {
     }
 }
 
-pub fn step(image: &[u8], reader: FlatReader, d: &FlatDialect) -> FlatStep {
-    let ended = reader.ended != 0;
-    let number = first(&[
-        (!good(d), 20),
-        (image.len() > LIMIT, 21),
-        (reader.at > image.len() || (ended && reader.outcome > 4), 22),
-    ]);
-    let none = FlatStep { number, accepted: 0, outcome: 0, seqno: 0, count: 0, body: 0, end: 0, next: 0, reader };
+/// 21 and 22 of a state on an image of so many bytes.
+fn state(length: usize, reader: FlatReader) -> u32 {
+    first(&[(length > LIMIT, 21), (reader.position > length, 22), (reader.ended != 0 && reader.outcome > 4, 22)])
+}
+
+pub fn step(image: &[u8], reader: FlatReader, d: &FlatDialect) -> FlatStepped {
+    let number = first(&[(!good(d), 20), (true, state(image.len(), reader))]);
+    let none = FlatStepped { number, accepted: 0, outcome: 0, seqno: 0, count: 0, body: 0, end: 0, next: 0, reader };
     if number != 0 {
         return none;
     }
-    let found = if ended { Err(reader.outcome) } else { batch(image, reader.at, d) };
+    let found = if reader.ended != 0 { Err(reader.outcome) } else { batch(image, reader.position, d) };
     match found {
-        Err(outcome) => FlatStep { outcome, reader: FlatReader { ended: 1, outcome, ..reader }, ..none },
-        Ok([seqno, count, body, end, next]) => FlatStep {
+        Err(outcome) => FlatStepped { outcome, reader: FlatReader { ended: 1, outcome, ..reader }, ..none },
+        Ok([seqno, count, body, end, next]) => FlatStepped {
             accepted: 1,
             seqno,
             count,
             body: body as usize,
             end: end as usize,
             next: next as usize,
-            reader: FlatReader { at: next as usize, ended: 0, outcome: 0 },
+            reader: FlatReader { position: next as usize, ended: 0, outcome: 0 },
             ..none
         },
     }
 }
 
-pub fn kept(length: usize, reader: FlatReader) -> usize {
-    if reader.outcome == 1 {
-        reader.at
-    } else {
-        length
-    }
+pub fn kept(length: usize, reader: FlatReader) -> FlatCount {
+    let number = state(length, reader);
+    let torn = reader.ended != 0 && reader.outcome == 1;
+    let bytes = if torn { reader.position } else { length };
+    FlatCount { number, bytes: if number == 0 { bytes } else { 0 } }
 }
