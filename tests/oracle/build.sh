@@ -94,5 +94,8 @@ while read -r name magic codes; do
     # shellcheck disable=SC2086
     dialect "$name" "$magic" $codes
 done <dialects
-[ -f "$top/target/staticlib/libpierloft.a" ] || (cd "$top" && rt staticlib pierloft) || exit 1
-PIERLOFT_ARCHIVE=${PIERLOFT_ARCHIVE:-$top/target/staticlib/libpierloft.a} cargo build -q --release --offline
+archive=$top/target/staticlib/libpierloft.a
+if [ ! -f "$archive" ] || [ -n "$(find "$top/crates" -name '*.rt' -newer "$archive")" ]; then
+    (cd "$top" && rt staticlib pierloft) || exit 1
+fi
+PIERLOFT_ARCHIVE=$archive cargo build -q --release --offline
