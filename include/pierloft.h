@@ -137,6 +137,39 @@ typedef struct {
 
 pierloft_entry pierloft_decode(const uint8_t *image, size_t length, size_t at, pierloft_dialect dialect);
 
+/* ---- XXH3-64, seed 0 and the default secret */
+
+/* A hash; or PIERLOFT_TOO_LONG or PIERLOFT_STATE. */
+typedef struct {
+    uint32_t number;
+    uint64_t hash;
+} pierloft_hash;
+
+pierloft_hash pierloft_xxh3_64(const uint8_t *bytes, size_t length);
+
+/* Where a hash by pieces stands: the accumulators, the last bytes of the input (byte n at place n mod 256), and how many came. */
+typedef struct {
+    uint64_t acc[8];
+    uint8_t hold[256];
+    uint64_t total;
+} pierloft_hasher;
+
+typedef struct {
+    uint32_t number;
+    pierloft_hasher state;
+} pierloft_absorbed;
+
+pierloft_hasher pierloft_hasher_new(void);
+
+/* The state after a piece, or PIERLOFT_TOO_LONG where the total would pass the limit. */
+pierloft_absorbed pierloft_absorb(pierloft_hasher state, const uint8_t *piece, size_t length);
+
+/* The same on a state that is changed in place; the number is what it answers. */
+uint32_t pierloft_absorb_into(pierloft_hasher *state, const uint8_t *piece, size_t length);
+
+/* The hash of the pieces joined, or PIERLOFT_STATE where the state's total is past the limit. */
+pierloft_hash pierloft_finish(pierloft_hasher state);
+
 #ifdef __cplusplus
 }
 #endif

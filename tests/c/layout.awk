@@ -25,6 +25,7 @@ function c_type(t) {
     if (t == "usize") return "size_t"
     if (t ~ /^u(8|16|32|64)$/) return "uint" substr(t, 2) "_t"
     if (t in sizes) return c_name(t)
+    if (t ~ /^&mut Flat/) return c_type(substr(t, 6)) " *"
     fail("no C type for " t)
 }
 function prototype(text,    f, inner, result, n, part, i, t, list) {

@@ -11,9 +11,16 @@ use Rattle.reader.specs.declared.Keep.{Keep}
 use Rattle.reader.specs.declared.Keep.the-variants as keeps
 use Rattle.reader.specs.declared.Reader.{Reader}
 use Rattle.reader.specs.declared.Stepped.{Stepped}
+use Rattle.stream.specs.declared.Absorbed.{Absorbed}
+use Rattle.stream.specs.declared.Hasher.{Hasher}
+use Rattle.xxh3.specs.declared.Hashed.{Hashed}
+use Rattle.xxh3.specs.declared.Hashed.the-variants as hashed
+use Rattle.pierloft.specs.declared.FlatAbsorbed.{FlatAbsorbed}
 use Rattle.pierloft.specs.declared.FlatCount.{FlatCount}
 use Rattle.pierloft.specs.declared.FlatDialect.{FlatDialect}
 use Rattle.pierloft.specs.declared.FlatEntry.{FlatEntry}
+use Rattle.pierloft.specs.declared.FlatHash.{FlatHash}
+use Rattle.pierloft.specs.declared.FlatHasher.{FlatHasher}
 use Rattle.pierloft.specs.declared.FlatReader.{FlatReader}
 use Rattle.pierloft.specs.declared.FlatStepped.{FlatStepped}
 
@@ -90,3 +97,18 @@ flatStepped came s = flatAnswer came (flatReader (s .reader)) (s .answer)
 abbrev pub flatKeep : Keep → FlatCount
 flatKeep (keeps.Bytes n) = record { number = 0; bytes = n }
 flatKeep (keeps.Refused n) = record { number = n; bytes = 0 }
+
+-- ---- XXH3-64
+
+abbrev pub flatHash : Hashed → FlatHash
+flatHash (hashed.Sum h) = record { number = 0; hash = h }
+flatHash (hashed.Refused n) = record { number = n; hash = 0 }
+
+abbrev pub hasherOf : FlatHasher → Hasher
+hasherOf h = record { acc = h .acc; hold = h .hold; total = h .total }
+
+abbrev pub flatHasher : Hasher → FlatHasher
+flatHasher h = record { acc = h .acc; hold = h .hold; total = h .total }
+
+abbrev pub flatAbsorbed : Absorbed → FlatAbsorbed
+flatAbsorbed a = record { number = a .number; state = flatHasher (a .state) }

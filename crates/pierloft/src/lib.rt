@@ -5,15 +5,21 @@ ghost use mathlib.Core.Bool.{cond, not};
 ghost use Rattle.dialect.specs.Dialect.{good, SHIPPED as shippedDialect, TEST as testDialect};
 ghost use Rattle.refusal.specs.Refusal.{whenOf};
 ghost use Rattle.entry.specs.Decoded.{decoded};
-ghost use Rattle.xxh3.specs.Xxh3.{hash, secret as defaultSecret};
+ghost use Rattle.xxh3.specs.Xxh3.{defaultSecret, hash};
+ghost use Rattle.xxh3.specs.Hashed.{hashed};
+ghost use Rattle.stream.specs.Stream.{fresh};
+ghost use Rattle.stream.specs.Calls.{absorbed, finished};
 ghost use Rattle.reader.specs.Reading.{stepped, keptOf};
-ghost use Rattle.pierloft.specs.Flat.{dialectOf, flatDialect, typeNumber, noEntry, flatStart, flatItem, flatEnd, flatClear, flatEntry, noBatch, readerOf, flatReader, flatStepped, flatKeep};
+ghost use Rattle.pierloft.specs.Flat.{dialectOf, flatDialect, typeNumber, noEntry, flatStart, flatItem, flatEnd, flatClear, flatEntry, noBatch, readerOf, flatReader, flatStepped, flatKeep, flatHash, hasherOf, flatHasher, flatAbsorbed};
 use dialect::Dialect;
 use entry::Decoded;
 use reader::Answer;
 use reader::Keep;
 use reader::Reader;
 use reader::Stepped;
+use stream::Absorbed;
+use stream::Hasher;
+use xxh3::Hashed;
 
 #[repr(C)]
 pub struct FlatDialect {
@@ -66,6 +72,25 @@ pub struct FlatStepped {
 pub struct FlatCount {
     pub number: u32,
     pub bytes: usize,
+}
+
+#[repr(C)]
+pub struct FlatHash {
+    pub number: u32,
+    pub hash: u64,
+}
+
+#[repr(C)]
+pub struct FlatHasher {
+    pub acc: [u64; 8],
+    pub hold: [u8; 256],
+    pub total: u64,
+}
+
+#[repr(C)]
+pub struct FlatAbsorbed {
+    pub number: u32,
+    pub state: FlatHasher,
 }
 
 // ---- dialects
@@ -374,4 +399,87 @@ pub extern "C" fn pierloft_kept(length: usize, reader: FlatReader) -> FlatCount
     ensures { λ r. ⌜ r ≡ flatKeep (keptOf length (readerOf reader)) ⌝ }
 {
     flat_keep(reader::kept(length, reader_of(reader)))
+}
+
+// ---- XXH3-64
+
+fn flat_hash(h: Hashed) -> FlatHash
+    ensures { λ r. ⌜ r ≡ flatHash h ⌝ }
+{
+    match h {
+        Hashed::Sum(hash) => FlatHash { number: 0, hash },
+        Hashed::Refused(number) => FlatHash { number, hash: 0 },
+    }
+}
+
+fn hasher_of(h: FlatHasher) -> Hasher
+    ensures { λ r. ⌜ r ≡ hasherOf h ⌝ }
+{
+    let acc = h.acc;
+    let hold = h.hold;
+    Hasher {
+        acc,
+        hold,
+        total: h.total,
+    }
+}
+
+fn flat_hasher(h: Hasher) -> FlatHasher
+    ensures { λ r. ⌜ r ≡ flatHasher h ⌝ }
+{
+    let acc = h.acc;
+    let hold = h.hold;
+    FlatHasher {
+        acc,
+        hold,
+        total: h.total,
+    }
+}
+
+fn flat_absorbed(a: Absorbed) -> FlatAbsorbed
+    ensures { λ r. ⌜ r ≡ flatAbsorbed a ⌝ }
+{
+    let state = a.state;
+    FlatAbsorbed {
+        number: a.number,
+        state: flat_hasher(state),
+    }
+}
+
+#[no_mangle]
+pub extern "C" fn pierloft_xxh3_64(bytes: &[u8]) -> FlatHash
+    ensures { λ r. ⌜ r ≡ flatHash (hashed (now (bytes .entry))) ⌝ }
+{
+    flat_hash(xxh3::xxh3_64(bytes))
+}
+
+#[no_mangle]
+pub extern "C" fn pierloft_hasher_new() -> FlatHasher
+    ensures { λ r. ⌜ r ≡ flatHasher fresh ⌝ }
+{
+    flat_hasher(Hasher::new())
+}
+
+#[no_mangle]
+pub extern "C" fn pierloft_absorb(state: FlatHasher, piece: &[u8]) -> FlatAbsorbed
+    ensures { λ r. ⌜ r ≡ flatAbsorbed (absorbed (hasherOf state) (now (piece .entry))) ⌝ }
+{
+    flat_absorbed(stream::absorb(hasher_of(state), piece))
+}
+
+#[no_mangle]
+pub extern "C" fn pierloft_finish(state: FlatHasher) -> FlatHash
+    ensures { λ r. ⌜ r ≡ flatHash (finished (hasherOf state)) ⌝ }
+{
+    flat_hash(stream::finish(hasher_of(state)))
+}
+
+// `pierloft_absorb` on a state that is lent and changed in place.
+#[no_mangle]
+pub extern "C" fn pierloft_absorb_into(state: &mut FlatHasher, piece: &[u8]) -> u32
+    ensures { λ r. ⌜ (r ≡ flatAbsorbed (absorbed (hasherOf (now (state .entry))) (now (piece .entry))) .number) × (now (state .exit) ≡ flatAbsorbed (absorbed (hasherOf (now (state .entry))) (now (piece .entry))) .state) ⌝ }
+{
+    let t = pierloft_absorb(*state, piece);
+    *state = t.state;
+    t.number
 }

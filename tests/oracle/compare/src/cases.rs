@@ -1,15 +1,16 @@
 //! A case is made of bytes, so that a fuzzer can turn them. The first says what the rest is:
 //!   0 an image, and 1 a list of entries from which an image with true checksums is made: read by the library and by the Rust;
 //!   2 and 3 a dialect and a state, made up, and an image or a list: a step, an entry and what to keep, held to the plain reading of
-//!     document 01, and to the Rust where the dialect is one of its four.
+//!     document 01, and to the Rust where the dialect is one of its four;
+//!   4 bytes and where they are cut: the hash in one go and by pieces, held to the crate that fjall uses; then a state made up.
 use crate::check::{difference, Tally};
 use crate::make::{self, Sum, Token};
-use crate::ours::{self, FlatReader};
+use crate::ours::{self, FlatHash, FlatHasher, FlatReader};
 use crate::{plain, Pair};
 use answers::{hex, Dialect, Judge};
 use std::fmt::Debug;
 
-pub const KINDS: u8 = 4;
+pub const KINDS: u8 = 5;
 
 /// The bytes of a case, taken from the front; 0 where there are no more.
 struct Input<'a>(&'a [u8]);
@@ -139,6 +140,57 @@ fn made_up(four: &mut [Pair], i: &mut Input, listed: bool) -> Said {
     }
 }
 
+/// The state after n bytes holds input byte k at place k mod 256, for the last ones.
+fn holds(state: &FlatHasher, bytes: &[u8]) -> bool {
+    let held = if bytes.is_empty() { 0 } else { (bytes.len() - 1) % 256 + 1 };
+    state.total == bytes.len() as u64 && (bytes.len() - held..bytes.len()).all(|k| state.hold[k % 256] == bytes[k])
+}
+
+fn hash(i: &mut Input) -> Said {
+    let cuts = &mut Input(i.take(8));
+    let all = i.0;
+    let (mut value, mut lent) = (ours::hasher_new(), ours::hasher_new());
+    let mut theirs = xxhash_rust::xxh3::Xxh3::new();
+    let mut rest = Input(all);
+    while !rest.0.is_empty() {
+        let piece = match cuts.byte() {
+            0 => rest.take(usize::MAX),
+            b @ 1..=200 => rest.take(b as usize),
+            b => rest.take(b as usize * 16),
+        };
+        theirs.update(piece);
+        let absorbed = ours::absorb(value, piece);
+        same("absorb", absorbed.number, 0)?;
+        value = absorbed.state;
+        same("absorb_into", ours::absorb_into(&mut lent, piece), 0)?;
+        same("the lent state", lent, value)?;
+        same("the bytes held", holds(&value, &all[..all.len() - rest.0.len()]), true)?;
+        same("finish", ours::finish(value), FlatHash { number: 0, hash: theirs.digest() })?;
+    }
+    same("one shot", ours::xxh3_64(all), FlatHash { number: 0, hash: xxhash_rust::xxh3::xxh3_64(all) })?;
+    made_up_hasher(value, all)
+}
+
+/// Totals around the limit: a piece too many is 21, a total too large 22, and the state comes back.
+fn made_up_hasher(state: FlatHasher, piece: &[u8]) -> Said {
+    let limit = u64::from(u32::MAX);
+    for total in [limit - piece.len() as u64, limit, limit + 1, u64::MAX, state.acc[0], state.acc[1] >> 32] {
+        let mut made = FlatHasher { total, ..state };
+        let over = total.checked_add(piece.len() as u64).is_none_or(|n| n > limit);
+        let absorbed = ours::absorb(made, piece);
+        same("21", absorbed.number, if over { 21 } else { 0 })?;
+        if over {
+            same("the state as it came", absorbed.state, made)?;
+        }
+        let finished = ours::finish(made);
+        same("22", finished.number, if total > limit { 22 } else { 0 })?;
+        same("no sum", total > limit && finished.hash != 0, false)?;
+        same("21, lent", ours::absorb_into(&mut made, piece), absorbed.number)?;
+        same("the lent state", made, absorbed.state)?;
+    }
+    Ok(())
+}
+
 pub fn case(four: &mut [Pair], bytes: &[u8]) -> Said {
     let i = &mut Input(bytes);
     match i.byte() % KINDS {
@@ -152,6 +204,7 @@ pub fn case(four: &mut [Pair], bytes: &[u8]) -> Said {
             let image = tokens(i, &d);
             read(&mut four[n], &image)
         }
+        4 => hash(i),
         kind => made_up(four, i, kind == 3),
     }
 }

@@ -1,7 +1,7 @@
 //! compare run SEED COUNT      all sets, COUNT random images over the four dialects, the large images
 //! compare random SEED COUNT   the random images alone
 //! compare sets                the sets alone
-//! compare cases SEED COUNT    made-up dialects and states (compare/src/cases.rs)
+//! compare cases SEED COUNT    made-up dialects and states, hashes by pieces (compare/src/cases.rs)
 //! compare large SEED          the large images alone
 //! compare image DIALECT HEX   what both sides say of one image
 //! compare differences         what docs/DIFFERENCES.md lists, both sides run
@@ -90,6 +90,13 @@ fn made(pairs: &[Pair], r: &mut Random, kind: u8, number: u64) -> Vec<u8> {
     let which = r.below(pairs.len());
     let family = FAMILIES[number as usize % FAMILIES.len()];
     let mut bytes = vec![kind, which as u8];
+    if kind == 4 {
+        // around each boundary of the hash
+        let edge = r.pick(&[0, 3, 8, 16, 128, 240, 256, 512, 1024, 2048, 4096]);
+        let length = 7 + (edge + r.below(8)).saturating_sub(4);
+        bytes.extend(r.bytes(length));
+        return bytes;
+    }
     if kind > 1 {
         let head = 13 + r.below(9);
         bytes.extend(r.bytes(head));
@@ -112,18 +119,19 @@ fn seeds(pairs: &[Pair], folder: &str) -> std::io::Result<()> {
     Ok(())
 }
 
-/// Made-up dialects and states over images of every family.
+/// Cases of every kind from 2 on: made-up dialects and states over images of every family, and hashes by pieces.
 fn cases(pairs: &mut [Pair], seed: u64, count: u64) -> Result<(), String> {
     let since = Instant::now();
     let mut r = Random::new(seed);
     for i in 0..count {
-        let bytes = made(pairs, &mut r, 2 + (i % 2) as u8, i / 2);
+        let kind = 2 + i % u64::from(KINDS - 2);
+        let bytes = made(pairs, &mut r, kind as u8, i / u64::from(KINDS - 2));
         if let Err(how) = case(pairs, &bytes) {
             let least = shrink(&bytes, |less| case(pairs, less).is_err());
             return Err(format!("DIFFERENCE (seed {seed}, number {i}): {}\n{}\nat first: {how}", hex(&least), case(pairs, &least).unwrap_err()));
         }
     }
-    println!("cases, seed {seed}: {count} made-up dialects and states, no difference; {:.1} s", since.elapsed().as_secs_f64());
+    println!("cases, seed {seed}: {count} cases, no difference; {:.1} s", since.elapsed().as_secs_f64());
     Ok(())
 }
 

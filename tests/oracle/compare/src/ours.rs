@@ -59,13 +59,40 @@ pub struct FlatCount {
     pub bytes: usize,
 }
 
+#[repr(C)]
+#[derive(Clone, Copy, Debug, PartialEq, Eq)]
+pub struct FlatHash {
+    pub number: u32,
+    pub hash: u64,
+}
+
+#[repr(C)]
+#[derive(Clone, Copy, Debug, PartialEq, Eq)]
+pub struct FlatHasher {
+    pub acc: [u64; 8],
+    pub hold: [u8; 256],
+    pub total: u64,
+}
+
+#[repr(C)]
+#[derive(Clone, Copy, Debug, PartialEq, Eq)]
+pub struct FlatAbsorbed {
+    pub number: u32,
+    pub state: FlatHasher,
+}
+
 mod c {
-    use super::{FlatCount, FlatDialect, FlatEntry, FlatReader, FlatStepped};
+    use super::{FlatAbsorbed, FlatCount, FlatDialect, FlatEntry, FlatHash, FlatHasher, FlatReader, FlatStepped};
 
     extern "C" {
         pub fn pierloft_decode(image: *const u8, length: usize, at: usize, dialect: FlatDialect) -> FlatEntry;
         pub fn pierloft_step(image: *const u8, length: usize, reader: FlatReader, dialect: FlatDialect) -> FlatStepped;
         pub fn pierloft_kept(length: usize, reader: FlatReader) -> FlatCount;
+        pub fn pierloft_xxh3_64(bytes: *const u8, length: usize) -> FlatHash;
+        pub fn pierloft_hasher_new() -> FlatHasher;
+        pub fn pierloft_absorb(state: FlatHasher, piece: *const u8, length: usize) -> FlatAbsorbed;
+        pub fn pierloft_absorb_into(state: *mut FlatHasher, piece: *const u8, length: usize) -> u32;
+        pub fn pierloft_finish(state: FlatHasher) -> FlatHash;
     }
 }
 
@@ -80,6 +107,26 @@ pub fn step(image: &[u8], reader: FlatReader, dialect: FlatDialect) -> FlatStepp
 
 pub fn kept(length: usize, reader: FlatReader) -> FlatCount {
     unsafe { c::pierloft_kept(length, reader) }
+}
+
+pub fn xxh3_64(bytes: &[u8]) -> FlatHash {
+    unsafe { c::pierloft_xxh3_64(bytes.as_ptr(), bytes.len()) }
+}
+
+pub fn hasher_new() -> FlatHasher {
+    unsafe { c::pierloft_hasher_new() }
+}
+
+pub fn absorb(state: FlatHasher, piece: &[u8]) -> FlatAbsorbed {
+    unsafe { c::pierloft_absorb(state, piece.as_ptr(), piece.len()) }
+}
+
+pub fn absorb_into(state: &mut FlatHasher, piece: &[u8]) -> u32 {
+    unsafe { c::pierloft_absorb_into(state, piece.as_ptr(), piece.len()) }
+}
+
+pub fn finish(state: FlatHasher) -> FlatHash {
+    unsafe { c::pierloft_finish(state) }
 }
 
 pub fn flat(d: Dialect) -> FlatDialect {
