@@ -476,9 +476,9 @@ fn xxh3_64_large(k: &[u8], s: &[u8]) -> u64
 
 // ---- XXH3-64
 
-// For callers that know their length to be within the limit: it refuses nothing. Assumes a secret of 192 bytes.
-pub fn hash_of(k: &[u8], s: &[u8]) -> u64
-    requires { ⌜ length (now k) ≡ 192 ⌝ }
+// Apart from `hash_of`, which then fits its callers: the slices of a short input are not laid in memory again.
+fn xxh3_64_small(k: &[u8], s: &[u8]) -> u64
+    requires { ⌜ (length (now k) ≡ 192) × (length (now s) ≤ 16) ⌝ }
     ensures { λ r. ⌜ r ≡ hash (now (k .entry)) (now (s .entry)) ⌝ }
 {
     let n = s.len();
@@ -491,8 +491,17 @@ pub fn hash_of(k: &[u8], s: &[u8]) -> u64
     if n <= 8 {
         return xxh3_64_4to8(k, s);
     }
+    xxh3_64_9to16(k, s)
+}
+
+// For callers that know their length to be within the limit: it refuses nothing. Assumes a secret of 192 bytes.
+pub fn hash_of(k: &[u8], s: &[u8]) -> u64
+    requires { ⌜ length (now k) ≡ 192 ⌝ }
+    ensures { λ r. ⌜ r ≡ hash (now (k .entry)) (now (s .entry)) ⌝ }
+{
+    let n = s.len();
     if n <= 16 {
-        return xxh3_64_9to16(k, s);
+        return xxh3_64_small(k, s);
     }
     if n <= 128 {
         return xxh3_64_17to128(k, s);
