@@ -24,7 +24,11 @@ fn main() {
 /// The repository's own folder, with the library in it.
 fn built() -> PathBuf {
     let here = PathBuf::from(std::env::var_os("CARGO_MANIFEST_DIR").expect("cargo sets it"));
-    let Some(top) = here.ancestors().nth(2).filter(|top| top.join("crates.txt").is_file()) else {
+    let Some(top) = here
+        .ancestors()
+        .nth(2)
+        .filter(|top| top.join("crates.txt").is_file())
+    else {
         fail("this crate stands outside its repository: set PIERLOFT_LIB_DIR to the folder that holds libpierloft.a");
     };
     let folder = top.join("target/staticlib");
@@ -32,7 +36,10 @@ fn built() -> PathBuf {
     let made = changed(&folder.join(ARCHIVE));
     if made.is_none() || newest(&top.join("crates")) > made {
         println!("cargo:warning=building {ARCHIVE} by `rt staticlib pierloft`: what is not proved yet is proved first, which can take minutes");
-        let run = Command::new("rt").args(["staticlib", "pierloft"]).current_dir(top).output();
+        let run = Command::new("rt")
+            .args(["staticlib", "pierloft"])
+            .current_dir(top)
+            .output();
         match run {
             Ok(run) if run.status.success() => {}
             Ok(run) => fail(&format!(

@@ -46,11 +46,27 @@ pub fn list(image: &[u8], dialect: Dialect, mut out: impl Write) -> io::Result<u
     }
     writeln!(out, "journal {} bytes", image.len())?;
     for batch in &mut journal {
-        writeln!(out, "@{} seq {} entries {}", batch.at(), batch.seqno(), batch.count())?;
+        writeln!(
+            out,
+            "@{} seq {} entries {}",
+            batch.at(),
+            batch.seqno(),
+            batch.count()
+        )?;
         for entry in batch {
             match entry {
-                Entry::Item { keyspace, value_type, key, value } => {
-                    writeln!(out, "item {keyspace} {value_type} {} {}", Hex(key), Hex(value))?;
+                Entry::Item {
+                    keyspace,
+                    value_type,
+                    key,
+                    value,
+                } => {
+                    writeln!(
+                        out,
+                        "item {keyspace} {value_type} {} {}",
+                        Hex(key),
+                        Hex(value)
+                    )?;
                 }
                 Entry::Clear { keyspace } => writeln!(out, "clear {keyspace}")?,
             }

@@ -34,8 +34,11 @@ fn recover(old: &OsStr, new: &OsStr, dialect: Dialect) -> Result<ExitCode, (Stri
     let image = std::fs::read(old).map_err(|e| (format!("{old_name}: {e}"), 66))?;
 
     let mut journal = batches(&image, dialect);
-    let end = journal.outcome().and_then(|outcome| Ok((outcome, journal.kept()?)));
-    let (outcome, kept) = end.map_err(|e| (format!("{old_name}: refused by {e}"), e.number() as u8))?;
+    let end = journal
+        .outcome()
+        .and_then(|outcome| Ok((outcome, journal.kept()?)));
+    let (outcome, kept) =
+        end.map_err(|e| (format!("{old_name}: refused by {e}"), e.number() as u8))?;
 
     // create_new: never a file that is there already, be it the old one under another name
     let file = File::create_new(new).map_err(|e| (format!("{new_name}: {e}"), 73))?;
@@ -43,7 +46,10 @@ fn recover(old: &OsStr, new: &OsStr, dialect: Dialect) -> Result<ExitCode, (Stri
         let _ = std::fs::remove_file(new);
         (format!("{new_name}: {e}"), 73)
     })?;
-    eprintln!("recover: {old_name}: {outcome}, {kept} of {} bytes kept in {new_name}", image.len());
+    eprintln!(
+        "recover: {old_name}: {outcome}, {kept} of {} bytes kept in {new_name}",
+        image.len()
+    );
     Ok(ExitCode::from(outcome.number() as u8))
 }
 

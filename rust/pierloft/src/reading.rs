@@ -139,6 +139,7 @@ impl Batches<'_> {
 impl<'a> Iterator for Batches<'a> {
     type Item = Batch<'a>;
 
+    #[inline]
     fn next(&mut self) -> Option<Batch<'a>> {
         if self.reader.ended != 0 || self.refusal.is_some() {
             return None;
@@ -257,6 +258,7 @@ pub struct Entries<'a> {
 impl<'a> Iterator for Entries<'a> {
     type Item = Entry<'a>;
 
+    #[inline]
     fn next(&mut self) -> Option<Entry<'a>> {
         if self.at == self.body.len() {
             return None;
@@ -318,6 +320,7 @@ pub enum Decoded<'a> {
 /// [`Refusal::TooLong`] for an image of more than 4,294,967,295 bytes, [`Refusal::State`] where `at` lies past it, and the first fault of an
 /// entry that cannot be read: [`Refusal::Incomplete`], [`Refusal::Tag`], [`Refusal::ValueType`], [`Refusal::Compression`],
 /// [`Refusal::Trailer`].
+#[inline]
 pub fn decode(image: &[u8], at: usize, dialect: Dialect) -> Result<Decoded<'_>, Refusal> {
     let e = ffi::decode(image, at, dialect.0);
     Refusal::of(e.number)?;

@@ -47,6 +47,7 @@ pub enum Refusal {
 
 impl Refusal {
     /// 0 is no refusal.
+    #[inline]
     pub(crate) fn of(number: u32) -> Result<(), Refusal> {
         Err(match number {
             0 => return Ok(()),

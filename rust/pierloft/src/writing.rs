@@ -1,4 +1,4 @@
-use crate::ffi::{self, FlatReply, FlatWriter};
+use crate::ffi::{self, FlatItem, FlatReply, FlatWriter, Place};
 use crate::{Dialect, Entry, Refusal, ValueType};
 use std::fmt;
 
@@ -78,7 +78,7 @@ impl<'a> Writer<'a> {
     /// [`Refusal::TooLong`], [`Refusal::State`] (any call may answer these two), [`Refusal::Order`] inside a batch, [`Refusal::Count`],
     /// [`Refusal::NoRoom`] where the batch could not be closed even if it were empty.
     pub fn open(&mut self, count: u64, seqno: u64) -> Result<usize, Refusal> {
-        let reply = ffi::open(self.buffer, self.dialect.0, self.state, count, seqno);
+        let reply = ffi::open(self.place(), count, seqno);
         self.take(reply)
     }
 
@@ -95,15 +95,13 @@ impl<'a> Writer<'a> {
         key: &[u8],
         value: &[u8],
     ) -> Result<usize, Refusal> {
-        let reply = ffi::put_item(
-            self.buffer,
-            self.dialect.0,
-            self.state,
-            value_type as u8,
+        let item = FlatItem {
+            value_type: value_type as u8,
             keyspace,
             key,
             value,
-        );
+        };
+        let reply = ffi::put_item(self.place(), item);
         self.take(reply)
     }
 
@@ -113,7 +111,7 @@ impl<'a> Writer<'a> {
     ///
     /// As [`put_item`](Writer::put_item), without [`Refusal::Key`].
     pub fn put_clear(&mut self, keyspace: u64) -> Result<usize, Refusal> {
-        let reply = ffi::put_clear(self.buffer, self.dialect.0, self.state, keyspace);
+        let reply = ffi::put_clear(self.place(), keyspace);
         self.take(reply)
     }
 
@@ -123,7 +121,7 @@ impl<'a> Writer<'a> {
     ///
     /// [`Refusal::Order`] outside a batch, [`Refusal::Counted`] where entries are still to come.
     pub fn close(&mut self) -> Result<usize, Refusal> {
-        let reply = ffi::close(self.buffer, self.dialect.0, self.state);
+        let reply = ffi::close(self.place());
         self.take(reply)
     }
 
@@ -140,16 +138,13 @@ impl<'a> Writer<'a> {
         key: &[u8],
         value: &[u8],
     ) -> Result<usize, Refusal> {
-        let reply = ffi::write_raw(
-            self.buffer,
-            self.dialect.0,
-            self.state,
-            seqno,
-            value_type as u8,
+        let item = FlatItem {
+            value_type: value_type as u8,
             keyspace,
             key,
             value,
-        );
+        };
+        let reply = ffi::write_raw(self.place(), seqno, item);
         self.take(reply)
     }
 
@@ -159,7 +154,7 @@ impl<'a> Writer<'a> {
     ///
     /// [`Refusal::Order`] inside a batch, [`Refusal::NoRoom`].
     pub fn write_clear(&mut self, seqno: u64, keyspace: u64) -> Result<usize, Refusal> {
-        let reply = ffi::write_clear(self.buffer, self.dialect.0, self.state, seqno, keyspace);
+        let reply = ffi::write_clear(self.place(), seqno, keyspace);
         self.take(reply)
     }
 
@@ -228,10 +223,20 @@ impl<'a> Writer<'a> {
         &self.buffer[..self.state.position.min(self.buffer.len())]
     }
 
+    #[inline]
+    fn place(&mut self) -> Place<'_> {
+        Place {
+            buf: self.buffer,
+            dialect: self.dialect.0,
+            writer: self.state,
+        }
+    }
+
+    #[inline]
     fn take(&mut self, reply: FlatReply) -> Result<usize, Refusal> {
-        self.state = reply.state;
+        self.state = reply.writer;
         Refusal::of(reply.number)?;
-        Ok(reply.wrote)
+        Ok(reply.bytes)
     }
 }
 
