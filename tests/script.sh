@@ -36,14 +36,13 @@ call() {
     fi
 }
 
-# STATUS STDOUT WORDS.. FILE: by name, by -, and on standard input
+# STATUS STDOUT WORDS FILE [MESSAGE]: by name, on standard input, and by -
 both() {
-    status=$1 text=$2 word=$3 file=$4
-    message=${5-}
-    call "$status" "$text" "${message:+$file: $message}" $word "$file"
+    want=$1 listing=$2 words=$3 file=$4 said=${5-}
+    call "$want" "$listing" "${said:+$file: $said}" $words "$file"
     in=$file
-    call "$status" "$text" "${message:+standard input: $message}" $word
-    call "$status" "$text" "${message:+standard input: $message}" $word -
+    call "$want" "$listing" "${said:+standard input: $said}" $words
+    call "$want" "$listing" "${said:+standard input: $said}" $words -
     in=/dev/null
 }
 
@@ -57,7 +56,7 @@ sum='\003\130\255\045\272\116\261\121\335'
 for dialect in '' --test; do
     magic='FJL\003'
     [ -z "$dialect" ] || magic='JL1\001'
-    word="dump${dialect:+ $dialect}"
+    dump="dump${dialect:+ $dialect}"
 
     # document 01's batch of 50 bytes, with three zeros behind it and without
     { start 1 && printf "$item$sum$magic"; } >"$dir/clean"
@@ -66,31 +65,31 @@ for dialect in '' --test; do
 item 2 V 61 7879'
     both 0 "journal 50 bytes
 $lines
-end 0 valid 50 kept 50" "$word" "$dir/clean"
+end 0 valid 50 kept 50" "$dump" "$dir/clean"
     both 1 "journal 53 bytes
 $lines
-end 1 valid 50 kept 50" "$word" "$dir/torn"
+end 1 valid 50 kept 50" "$dump" "$dir/torn"
 
     # the errors: document 01's P7 and P10, and an empty batch with a checksum of 0
     { start 1 && printf "$zero$magic"; } >"$dir/insufficient"
     { start 0 && printf "$clear"; } >"$dir/many"
     { start 0 && printf "$zero$magic"; } >"$dir/mismatch"
     both 2 'journal 26 bytes
-end 2 valid 0 kept 26' "$word" "$dir/insufficient"
+end 2 valid 0 kept 26' "$dump" "$dir/insufficient"
     both 3 'journal 22 bytes
-end 3 valid 0 kept 22' "$word" "$dir/many"
+end 3 valid 0 kept 22' "$dump" "$dir/many"
     both 4 'journal 26 bytes
-end 4 valid 0 kept 26' "$word" "$dir/mismatch"
+end 4 valid 0 kept 26' "$dump" "$dir/mismatch"
 
     # nothing at all; as long as may be; one byte longer
     : >"$dir/empty"
     both 0 'journal 0 bytes
-end 0 valid 0 kept 0' "$word" "$dir/empty"
+end 0 valid 0 kept 0' "$dump" "$dir/empty"
     head -c 65536 /dev/zero >"$dir/limit"
     head -c 65537 /dev/zero >"$dir/long"
     both 1 'journal 65536 bytes
-end 1 valid 0 kept 0' "$word" "$dir/limit"
-    both 21 'refused 21' "$word" "$dir/long" 'longer than 65,536 bytes'
+end 1 valid 0 kept 0' "$dump" "$dir/limit"
+    both 21 'refused 21' "$dump" "$dir/long" 'longer than 65,536 bytes'
 done
 
 # the other dialect's magic is not there

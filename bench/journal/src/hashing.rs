@@ -13,6 +13,12 @@ mod c {
     }
 }
 
+/// libxxhash's hash, as it is installed.
+pub fn shipped(bytes: &[u8]) -> u64 {
+    // it reads the bytes of one slice and keeps no pointer
+    unsafe { c::shipped_once(bytes.as_ptr(), bytes.len()) }
+}
+
 const SCALAR: &str = "libxxhash, scalar";
 const SHIPPED: &str = "libxxhash, as shipped";
 const PLAIN: &str = "plain Rust";
@@ -85,9 +91,8 @@ pub fn run(quick: bool) {
             [
                 &|b| xxh3_64(b).expect("within the limit"),
                 &|b| plain::xxh3_64(b),
-                // both read the bytes of one slice and keep no pointer
                 &|b| unsafe { c::scalar_once(b.as_ptr(), b.len()) },
-                &|b| unsafe { c::shipped_once(b.as_ptr(), b.len()) },
+                &|b| shipped(b),
             ],
             rounds,
         );

@@ -1,5 +1,6 @@
 //! Reading and writing beside fjall's own JournalBatchReader and Writer on a file in memory; and how the time grows with the image.
 use crate::clock::race;
+use crate::hashing::shipped;
 use crate::heap::asked;
 use crate::line;
 use fjall::{Fjall, Items};
@@ -12,6 +13,9 @@ const KEYSPACE: u64 = 2;
 const KEY: usize = 8;
 /// Entries to a batch.
 const COUNT: usize = 16;
+
+const READER: &str = "fjall's JournalBatchReader";
+const WRITER: &str = "fjall's Writer";
 
 /// A batch of `COUNT` items, to be written again and again.
 struct Load {
@@ -84,27 +88,42 @@ fn compare(fjall: &Fjall, size: usize, value: usize, rounds: usize) {
     assert_eq!(read(&image), fjall.read(), "the readers differ");
 
     // the heap
-    assert_eq!(asked(&mut || drop(black_box(read(&image)))), 0, "reading asked for memory");
-    assert_eq!(asked(&mut || drop(black_box(write(&mut buffer, &load, times)))), 0, "writing asked for memory");
+    let asked_by_reading = asked(&mut || {
+        black_box(read(&image));
+    });
+    let asked_by_writing = asked(&mut || {
+        black_box(write(&mut buffer, &load, times));
+    });
+    assert_eq!((asked_by_reading, asked_by_writing), (0, 0), "the heap was asked for memory");
 
-    let [ours, ours_from_file, their] = race(
+    let [ours, ours_from_file, hash, their] = race(
         rounds,
         [
-            &mut || drop(black_box(read(black_box(&buffer[..length])))),
+            &mut || {
+                black_box(read(black_box(&buffer[..length])));
+            },
             &mut || {
                 fjall.file().read_exact_at(&mut image, 0).expect("read");
                 black_box(read(black_box(&image)));
             },
-            &mut || drop(black_box(fjall.read())),
+            &mut || {
+                black_box(shipped(black_box(&buffer[..length])));
+            },
+            &mut || {
+                black_box(fjall.read());
+            },
         ],
     );
-    line("reading", &input, "JournalBatchReader", ours, their, "10 times as fast");
-    line("reading, after the file was read into memory", &input, "JournalBatchReader", ours_from_file, their, "");
+    line("reading", &input, READER, ours, their, "10 times as fast");
+    line("reading, the file read into memory first", &input, READER, ours_from_file, their, "");
+    line("no reading, only libxxhash's hash of the image", &input, READER, hash, their, "");
 
     let [ours, ours_to_file, their] = race(
         rounds,
         [
-            &mut || drop(black_box(write(black_box(&mut buffer), &load, times))),
+            &mut || {
+                black_box(write(black_box(&mut buffer), &load, times));
+            },
             &mut || {
                 fjall.lay(&[]);
                 let wrote = write(&mut image, &load, times);
@@ -116,31 +135,36 @@ fn compare(fjall: &Fjall, size: usize, value: usize, rounds: usize) {
             },
         ],
     );
-    line("writing", &input, "Writer", ours, their, "3 times as fast");
-    line("writing, and then to the file", &input, "Writer", ours_to_file, their, "");
+    line("writing", &input, WRITER, ours, their, "3 times as fast");
+    line("writing, and then to the file", &input, WRITER, ours_to_file, their, "");
 }
 
 /// The time of a byte, beside that of 1 MiB.
-fn growth(value: usize, rounds: usize) {
+fn growth(value: usize, quick: bool) {
     let load = Load::new(value);
     let mut buffer = vec![0; 1 << 30];
     let mut first = [0.0; 2];
-    for size in [1usize << 20, 1 << 26, 1 << 30] {
+    for (size, name, rounds) in [(1 << 20, "1 MiB", 60), (1 << 26, "64 MiB", 8), (1 << 30, "1 GiB", 3)] {
         let times = load.times(size);
         let length = write(&mut buffer, &load, times);
         let copy = buffer[..length].to_vec();
-        let rounds = (rounds << 26 >> size.trailing_zeros()).clamp(3, 50);
         let took = race(
-            rounds,
-            [&mut || drop(black_box(read(&copy))), &mut || drop(black_box(write(&mut buffer, &load, times)))],
+            if quick { 1 } else { rounds },
+            [
+                &mut || {
+                    black_box(read(&copy));
+                },
+                &mut || {
+                    black_box(write(&mut buffer, &load, times));
+                },
+            ],
         );
         let each = took.map(|time| time / length as f64);
         if first[0] == 0.0 {
             first = each;
             continue;
         }
-        let input = if size >> 30 == 1 { "1 GiB" } else { "64 MiB" };
-        let input = format!("{input}, values of {value} B");
+        let input = format!("{name}, values of {value} B");
         line("reading, time of a byte", &input, "the same at 1 MiB", each[0], first[0], "1, linear");
         line("writing, time of a byte", &input, "the same at 1 MiB", each[1], first[1], "1, linear");
     }
@@ -155,6 +179,6 @@ pub fn run(quick: bool) {
         }
     }
     for value in [16, 4096] {
-        growth(value, if quick { 1 } else { 5 });
+        growth(value, quick);
     }
 }
