@@ -95,18 +95,18 @@ pub struct FlatAbsorbed {
 
 // ---- dialects
 
-fn dialect_of(d: FlatDialect) -> Dialect
-    ensures { λ r. ⌜ r ≡ dialectOf d ⌝ }
+fn dialect_of(flat: FlatDialect) -> Dialect
+    ensures { λ r. ⌜ r ≡ dialectOf flat ⌝ }
 {
-    let magic = d.magic;
+    let magic = flat.magic;
     Dialect {
         magic,
-        length: d.length,
-        value: d.value,
-        tombstone: d.tombstone,
-        weak: d.weak,
-        indirection: d.indirection,
-        none: d.none,
+        length: flat.length,
+        value: flat.value,
+        tombstone: flat.tombstone,
+        weak: flat.weak,
+        indirection: flat.indirection,
+        none: flat.none,
     }
 }
 
@@ -311,13 +311,13 @@ fn flag(x: bool) -> u32
     x as u32
 }
 
-fn reader_of(r: FlatReader) -> Reader
-    ensures { λ s. ⌜ s ≡ readerOf r ⌝ }
+fn reader_of(flat: FlatReader) -> Reader
+    ensures { λ s. ⌜ s ≡ readerOf flat ⌝ }
 {
     Reader {
-        position: r.position,
-        ended: r.ended != 0,
-        outcome: r.outcome,
+        position: flat.position,
+        ended: flat.ended != 0,
+        outcome: flat.outcome,
     }
 }
 
@@ -412,15 +412,15 @@ fn flat_hash(h: Hashed) -> FlatHash
     }
 }
 
-fn hasher_of(h: FlatHasher) -> Hasher
-    ensures { λ r. ⌜ r ≡ hasherOf h ⌝ }
+fn hasher_of(flat: FlatHasher) -> Hasher
+    ensures { λ r. ⌜ r ≡ hasherOf flat ⌝ }
 {
-    let acc = h.acc;
-    let hold = h.hold;
+    let acc = flat.acc;
+    let hold = flat.hold;
     Hasher {
         acc,
         hold,
-        total: h.total,
+        total: flat.total,
     }
 }
 
