@@ -22,11 +22,10 @@ use refusal::when;
 use writer::HASHED_FROM;
 use writer::Reply;
 use writer::WriterState;
+use writer::checksum_of;
 use writer::outside;
 use writer::refused;
 use writer::shared_refusal;
-use xxh3::SECRET;
-use xxh3::hash_of;
 
 // The entry has fixed + key + value bytes; `wrong` says that its key is too long.
 fn write_refusal(
@@ -64,7 +63,7 @@ fn fill_item_batch(
     fill_start(buf, 1, seqno);
     fill_item(&mut buf[13..], code, d.none, keyspace, key, value);
     let end = 34 + key.len() + value.len();
-    let checksum = hash_of(&SECRET, &buf[HASHED_FROM..end]);
+    let checksum = checksum_of(&buf[HASHED_FROM..end]);
     fill_end(&mut buf[end..], d, checksum);
 }
 
@@ -75,7 +74,7 @@ fn fill_clear_batch(buf: &mut [u8], d: Dialect, seqno: u64, keyspace: u64)
 {
     fill_start(buf, 1, seqno);
     fill_clear(&mut buf[13..], keyspace);
-    let checksum = hash_of(&SECRET, &buf[HASHED_FROM..22]);
+    let checksum = checksum_of(&buf[HASHED_FROM..22]);
     fill_end(&mut buf[22..], d, checksum);
 }
 

@@ -1,8 +1,8 @@
 -- What is known where a call is not refused, and of what it then leaves.
 use Prim.Native.Nat.{ℕ, _+_, _-_, _≤_}
 use mathlib.Core.Path.{_≡_, refl, sym, ap, _∙_}
-use mathlib.Core.Bool.{Bool, true, false, cond, not, _&&_, _||_, false≢true}
-use mathlib.Core.List.{List, [], _∷_, _++_}
+use mathlib.Core.Bool.{Bool, true, false, cond, not, _||_, false≢true}
+use mathlib.Core.List.{List, [], _++_}
 use native.Mathlib.Omega.{arith}
 use lib.ListN.{length, drop}
 use lib.Seq.{drop-at}
@@ -12,7 +12,7 @@ use Rattle.number.specs.Limit.{limit}
 use Rattle.number.specs.Part.{over}
 use Rattle.dialect.specs.declared.Dialect.{Dialect}
 use Rattle.dialect.specs.Dialect.{good}
-use Rattle.refusal.specs.Refusal.{firstOf, whenOf, bufferRefusal}
+use Rattle.refusal.specs.Refusal.{whenOf, bufferRefusal}
 use Rattle.refusal.specs.Laws.{first-zero, when-zero, not-or, is-true, buffer-zero}
 use Rattle.entry.specs.Entry.{Put, start, put, putAll, hashed}
 use Rattle.entry.specs.Sizes.{start-size}

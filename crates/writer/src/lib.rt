@@ -5,6 +5,7 @@ ghost use mathlib.Core.Bool.{not, _&&_};
 ghost use Prim.Native.Nat.{_≤_, _<_, _+_};
 ghost use lib.Dec.{eqb};
 ghost use Rattle.number.specs.Limit.{limit};
+ghost use Rattle.xxh3.specs.Xxh3.{xxh3};
 ghost use Rattle.dialect.specs.Dialect.{codeOf};
 ghost use Rattle.entry.specs.Entry.{item, clear};
 ghost use Rattle.writer.specs.Writing.{outOfRange, noRoom, sharedRefusal, openRefusal, putRefusal, closeRefusal, refusedReply, idleReply, insideReply, outsideReply, openCall, putCall, closeCall};
@@ -182,6 +183,13 @@ pub fn outside(at: usize, size: usize) -> Reply
 
 // ---- the calls
 
+// The one-shot hash under the default secret, of a part that is within the limit since its buffer is.
+pub fn checksum_of(part: &[u8]) -> u64
+    ensures { λ r. ⌜ r ≡ xxh3 (now (part .entry)) ⌝ }
+{
+    hash_of(&SECRET, part)
+}
+
 // A count of 0 writes and opens nothing.
 pub fn open(buf: &mut [u8], d: Dialect, s: WriterState, count: u64, seqno: u64) -> Reply
     ensures { λ r. ⌜ (r ≡ openCall d (now (buf .entry)) s count seqno .reply) × (now (buf .exit) ≡ openCall d (now (buf .entry)) s count seqno .bytes) ⌝ }
@@ -243,7 +251,7 @@ pub fn close(buf: &mut [u8], d: Dialect, s: WriterState) -> Reply
     }
     let at = s.position;
     let from = s.start + HASHED_FROM;
-    let checksum = hash_of(&SECRET, &buf[from..at]);
+    let checksum = checksum_of(&buf[from..at]);
     fill_end(&mut buf[at..], d, checksum);
     outside(at, 9 + d.length)
 }
