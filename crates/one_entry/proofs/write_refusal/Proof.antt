@@ -1,3 +1,7 @@
+use Rattle.writer.specs.Writing.{noRoom, writeRefusal}
+use native.Mathlib.Omega.{arith}
+use Prim.Native.Nat.{_+_}
+use mathlib.Core.Path.{_≡_}
 use borrow.Author.Needs.{needs}
 use Rattle.one_entry.proofs.write_refusal.Statement.{statement}
 use Rattle.one_entry.proofs.write_refusal.Tie as tie
@@ -36,7 +40,11 @@ first-requires-3 : tie.Need-first-requires-3
 first-requires-3 c κs = search needs
 
 returns : tie.Need-returns
-returns c = ?
+unfolding writeRefusal noRoom
+returns c =
+    let a = c .before .before .before .before .before .before .before .before .args in
+    let e : 22 + a .fixed + a .d .length + a .key + a .value ≡ 22 + a .d .length + (a .fixed + a .key + a .value) = omega arith in
+    cc e
 
 pub write-refusal-spec : {M : Type 1} → statement M
 write-refusal-spec =
