@@ -6,7 +6,7 @@ use mathlib.Core.List.{List, [], _∷_, _++_, append-assoc, append-nil}
 use native.Mathlib.Omega.{arith}
 use native.Mathlib.Nat.{zero-add}
 use lib.ListN.{length, take, drop, length-append, take-append-drop}
-use lib.Seq.{length-take-le, drop-append-add, drop-at}
+use lib.Seq.{length-take-le}
 use lib.Dec.{eqb}
 use borrow.Author.Tests.{eqb-true, eqb-false}
 use Rattle.number.specs.Limit.{limit}
