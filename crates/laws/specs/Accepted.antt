@@ -11,7 +11,7 @@ use lib.Seq.{append-snoc}
 use borrow.Author.Tests.{ne-eqb, le-ltb}
 use Rattle.number.specs.Limit.{limit}
 use Rattle.number.specs.Part.{over, length-over}
-use Rattle.xxh3.specs.Xxh3.{xxh3}
+use Rattle.xxh3.specs.Xxh3.{xxh3-64}
 use Rattle.dialect.specs.declared.Dialect.{Dialect}
 use Rattle.dialect.specs.Dialect.{good}
 use Rattle.refusal.specs.Refusal.{firstOf, whenOf, bufferRefusal}
@@ -68,14 +68,14 @@ module _ (d : Dialect) where
   unfolding putAll
   puts-size p ps = ap length (sym (put-append d (body p) [] (putAll d ps []))) ∙ length-append (put d (body p) []) (putAll d ps [])
 
-  batch-size : good d ≡ true → (b : Closed) → length (bytesOf d xxh3 b) ≡ 13 + length (putAll d (b .entries) []) + (9 + d .length)
+  batch-size : good d ≡ true → (b : Closed) → length (bytesOf d xxh3-64 b) ≡ 13 + length (putAll d (b .entries) []) + (9 + d .length)
   batch-size g b =
       let ps = b .entries in
       let S = put d (start (length ps) (b .seqno)) [] in
       let B = putAll d ps [] in
-      let sum = xxh3 (hashed d (length ps) (b .seqno) ps) in
+      let sum = xxh3-64 (hashed d (length ps) (b .seqno) ps) in
       let E = put d (end sum) [] in
-      let e : length (bytesOf d xxh3 b) ≡ length S + (length B + length E) = ap length (batch-parts d xxh3 (b .seqno) ps) ∙ length-append S (B ++ E) ∙ ap (λ (n : ℕ). length S + n) (length-append B E) in
+      let e : length (bytesOf d xxh3-64 b) ≡ length S + (length B + length E) = ap length (batch-parts d xxh3-64 (b .seqno) ps) ∙ length-append S (B ++ E) ∙ ap (λ (n : ℕ). length S + n) (length-append B E) in
       omega (arith, e, start-size d (length ps) (b .seqno), end-length d sum g)
 
   key-right : (g : Given) → KeyFits g → wrongPut (coded d g) ≡ false
@@ -179,7 +179,7 @@ module _ (d : Dialect) where
     unfolding result closeCall note
     close-go cs xs from at closed c bs to short s room k =
         let r = inside from 0 at in
-        let sum = xxh3 (standing xs r) in
+        let sum = xxh3-64 (standing xs r) in
         let w = put d (end sum) [] in
         let n : length w ≡ 9 + d .length = end-length d sum g in
         let l : length (over at w xs) ≡ length xs = length-over at w xs (omega (arith, n, room)) in
@@ -190,41 +190,41 @@ module _ (d : Dialect) where
         (subst (λ (i : ℕ). Goes cs (record { bytes = over at w xs; state = outside (at + i); ledger = record { closed = closed ++ (c ∷ []); current = c } }) bs to) (sym n) (k (over at w xs) l))
 
     -- batch after batch
-    batches-go : (bs : List Wanted) (xs : List ℕ) (at : ℕ) (closed : List Closed) (q : ℕ) (ps : List Put) → length xs ≤ limit → EachWritable bs → at + length (journal d xxh3 (map asClosed bs)) ≤ length xs
-        → Goes (callsOf bs) (record { bytes = xs; state = outside at; ledger = ledgerOf closed q ps }) (closed ++ map asClosed bs) (at + length (journal d xxh3 (map asClosed bs)))
+    batches-go : (bs : List Wanted) (xs : List ℕ) (at : ℕ) (closed : List Closed) (q : ℕ) (ps : List Put) → length xs ≤ limit → EachWritable bs → at + length (journal d xxh3-64 (map asClosed bs)) ≤ length xs
+        → Goes (callsOf bs) (record { bytes = xs; state = outside at; ledger = ledgerOf closed q ps }) (closed ++ map asClosed bs) (at + length (journal d xxh3-64 (map asClosed bs)))
     unfolding callsOf EachWritable journal result openCall note
     batches-go [] xs at closed q ps short can room =
         rw (append-nil closed) (goes-none (record { bytes = xs; state = outside at; ledger = ledgerOf closed q ps }) (at + 0) (ap outside (sym (add-zero at))))
     batches-go (b ∷ bs) xs at closed q ps short can room =
         let c = asClosed b in
         let gs = b .entries in
-        let J = journal d xxh3 (map asClosed bs) in
+        let J = journal d xxh3-64 (map asClosed bs) in
         let w = put d (start (length gs) (b .seqno)) [] in
         let B = length (putAll d (c .entries) []) in
         let a : length w ≡ 13 = start-size d (length gs) (b .seqno) in
-        let n : length (bytesOf d xxh3 c ++ J) ≡ 13 + B + (9 + d .length) + length J = length-append (bytesOf d xxh3 c) J ∙ ap (λ (i : ℕ). i + length J) (batch-size g c) in
+        let n : length (bytesOf d xxh3-64 c ++ J) ≡ 13 + B + (9 + d .length) + length J = length-append (bytesOf d xxh3-64 c) J ∙ ap (λ (i : ℕ). i + length J) (batch-size g c) in
         let l : length (over at w xs) ≡ length xs = length-over at w xs (omega (arith, n, a, room)) in
         let some = can .0 .some in
         let z : length gs ≡ 0 → ⊥ = λ y. omega (arith, y, some) in
         let r = outside at in
         let m = openRefusal d (length xs) r (length gs) in
         let o = wrote xs r w (inside at (length gs)) in
-        goes-on (opens (length gs) (b .seqno)) (map puts gs ++ (closes ∷ callsOf bs)) (record { bytes = xs; state = r; ledger = ledgerOf closed q ps }) m o (closed ++ (c ∷ map asClosed bs)) (at + length (bytesOf d xxh3 c ++ J))
+        goes-on (opens (length gs) (b .seqno)) (map puts gs ++ (closes ∷ callsOf bs)) (record { bytes = xs; state = r; ledger = ledgerOf closed q ps }) m o (closed ++ (c ∷ map asClosed bs)) (at + length (bytesOf d xxh3-64 c ++ J))
         (rw (ne-eqb (length gs) 0 z))
         (open-none g (length xs) short (length gs) at some (can .0 .few) (omega (arith, n, room)))
         refl
         (rw (ne-eqb (length gs) 0 z)
-        (puts-go gs (closes ∷ callsOf bs) (over at w xs) at (at + length w) closed (b .seqno) [] (closed ++ (c ∷ map asClosed bs)) (at + length (bytesOf d xxh3 c ++ J)) (rw l short) (can .0 .keys) (can .0 .few) (omega (arith, a)) (rw l (omega (arith, n, a, room)))
+        (puts-go gs (closes ∷ callsOf bs) (over at w xs) at (at + length w) closed (b .seqno) [] (closed ++ (c ∷ map asClosed bs)) (at + length (bytesOf d xxh3-64 c ++ J)) (rw l short) (can .0 .keys) (can .0 .few) (omega (arith, a)) (rw l (omega (arith, n, a, room)))
         (λ ys y.
-        close-go (callsOf bs) ys at (at + length w + B) closed c (closed ++ (c ∷ map asClosed bs)) (at + length (bytesOf d xxh3 c ++ J)) (rw (y, l) short) (omega (arith, a)) (rw (y, l) (omega (arith, n, a, room)))
+        close-go (callsOf bs) ys at (at + length w + B) closed c (closed ++ (c ∷ map asClosed bs)) (at + length (bytesOf d xxh3-64 c ++ J)) (rw (y, l) short) (omega (arith, a)) (rw (y, l) (omega (arith, n, a, room)))
         (λ zs v.
-        let e : at + length w + B + (9 + d .length) + length J ≡ at + length (bytesOf d xxh3 c ++ J) = omega (arith, n, a) in
+        let e : at + length w + B + (9 + d .length) + length J ≡ at + length (bytesOf d xxh3-64 c ++ J) = omega (arith, n, a) in
         rw (e, append-snoc closed c (map asClosed bs)) at (batches-go bs zs (at + length w + B + (9 + d .length)) (closed ++ (c ∷ [])) (b .seqno) (c .entries) (rw (v, y, l) short) (can .1) (rw (v, y, l) (omega (arith, n, a, room))))))))
 
 -- on a fresh buffer with room for them
-pub all-accepted : (d : Dialect) → good d ≡ true → (xs : List ℕ) → length xs ≤ limit → (bs : List Wanted) → EachWritable bs → length (journal d xxh3 (map (asClosed d) bs)) ≤ length xs
-    → Goes d (callsOf bs) (fresh xs) (map (asClosed d) bs) (length (journal d xxh3 (map (asClosed d) bs)))
+pub all-accepted : (d : Dialect) → good d ≡ true → (xs : List ℕ) → length xs ≤ limit → (bs : List Wanted) → EachWritable bs → length (journal d xxh3-64 (map (asClosed d) bs)) ≤ length xs
+    → Goes d (callsOf bs) (fresh xs) (map (asClosed d) bs) (length (journal d xxh3-64 (map (asClosed d) bs)))
 all-accepted d g xs short bs can room =
-    let J = journal d xxh3 (map (asClosed d) bs) in
+    let J = journal d xxh3-64 (map (asClosed d) bs) in
     let e : 0 + length J ≡ length J = omega arith in
     rw e at (batches-go d g bs xs 0 [] 0 [] short can (omega arith))

@@ -11,7 +11,7 @@ use lib.Dec.{eqb}
 use borrow.Author.Tests.{eqb-true, eqb-false}
 use Rattle.number.specs.Limit.{limit}
 use Rattle.number.specs.Part.{over, length-over, take-over, between}
-use Rattle.xxh3.specs.Xxh3.{xxh3}
+use Rattle.xxh3.specs.Xxh3.{xxh3-64}
 use Rattle.dialect.specs.declared.Dialect.{Dialect}
 use Rattle.dialect.specs.Dialect.{good}
 use Rattle.entry.specs.Entry.{Put, start, body, end, put, putAll, putBatch, hashed, Fits, AllFit}
@@ -27,7 +27,7 @@ use Rattle.laws.specs.Runs.{Call, Ledger, ledgerOf, Standing, isWrote, a
 module _ (d : Dialect) (size : ℕ) where
   -- the encoding of the batches closed so far
   abbrev pub filed : Standing → List ℕ
-  filed r = journal d xxh3 (r .ledger .closed)
+  filed r = journal d xxh3-64 (r .ledger .closed)
 
   -- the count of the batch that is open: the entries put, and those still to come
   abbrev pub countOf : Standing → ℕ
@@ -164,11 +164,11 @@ module _ (d : Dialect) (size : ℕ) where
 
   -- CLOSE
   pub close-keeps : (r : Standing) → Going r → good d ≡ true → r .state .left ≡ 0
-      → Kept (landed r (put d (end (xxh3 (standing (r .bytes) (r .state)))) []) outside (file d (r .ledger .current) (r .ledger)))
+      → Kept (landed r (put d (end (xxh3-64 (standing (r .bytes) (r .state)))) []) outside (file d (r .ledger .current) (r .ledger)))
   close-keeps r k g none =
       let b = r .ledger .current in
       let ps = b .entries in
-      let sum = xxh3 (standing (r .bytes) (r .state)) in
+      let sum = xxh3-64 (standing (r .bytes) (r .state)) in
       let w = put d (end sum) [] in
       let at = r .state .position in
       let n : length w ≡ 9 + d .length = end-length d sum g in
@@ -182,18 +182,18 @@ module _ (d : Dialect) (size : ℕ) where
         none = refl;
         sized = l ∙ k .sized;
         within = omega arith;
-        stands = behind r k w ∙ ap (λ (x : List ℕ). parts (countOf r) (xxh3 x)) (standing-is r k) ∙ ap (λ (i : ℕ). parts i (xxh3 (hashed d i (b .seqno) ps))) c
-            ∙ ap (λ (x : List ℕ). filed r ++ x) (sym (batch-parts d xxh3 (b .seqno) ps)) ∙ sym (journal-snoc d xxh3 (r .ledger .closed) b);
+        stands = behind r k w ∙ ap (λ (x : List ℕ). parts (countOf r) (xxh3-64 x)) (standing-is r k) ∙ ap (λ (i : ℕ). parts i (xxh3-64 (hashed d i (b .seqno) ps))) c
+            ∙ ap (λ (x : List ℕ). filed r ++ x) (sym (batch-parts d xxh3-64 (b .seqno) ps)) ∙ sym (journal-snoc d xxh3-64 (r .ledger .closed) b);
         fit = each-snoc d (r .ledger .closed) b (k .fit) (record { count-fits = omega (arith, c, f); seqno-fits = k .seqno-fits; fit = k .entries-fit });
       })
 
   -- A BATCH OF ONE ENTRY
-  pub write-keeps : (r : Standing) → Shut r → (seqno : ℕ) (p : Put) → seqno < 256 ^ 8 → Fits d (body p) → r .state .position + length (putBatch d xxh3 seqno (p ∷ [])) ≤ length (r .bytes)
-      → Kept (landed r (putBatch d xxh3 seqno (p ∷ [])) outside (file d (record { seqno = seqno; entries = p ∷ [] }) (r .ledger)))
+  pub write-keeps : (r : Standing) → Shut r → (seqno : ℕ) (p : Put) → seqno < 256 ^ 8 → Fits d (body p) → r .state .position + length (putBatch d xxh3-64 seqno (p ∷ [])) ≤ length (r .bytes)
+      → Kept (landed r (putBatch d xxh3-64 seqno (p ∷ [])) outside (file d (record { seqno = seqno; entries = p ∷ [] }) (r .ledger)))
   unfolding AllFit
   write-keeps r k seqno p fits fit room =
       let b : Closed = record { seqno = seqno; entries = p ∷ [] } in
-      let w = putBatch d xxh3 seqno (p ∷ []) in
+      let w = putBatch d xxh3-64 seqno (p ∷ []) in
       let at = r .state .position in
       let l : length (over at w (r .bytes)) ≡ length (r .bytes) = length-over at w (r .bytes) room in
       shut (record {
@@ -201,7 +201,7 @@ module _ (d : Dialect) (size : ℕ) where
         none = refl;
         sized = l ∙ k .sized;
         within = omega arith;
-        stands = take-over at w (r .bytes) (k .within) ∙ ap (λ (x : List ℕ). x ++ w) (k .stands) ∙ sym (journal-snoc d xxh3 (r .ledger .closed) b);
+        stands = take-over at w (r .bytes) (k .within) ∙ ap (λ (x : List ℕ). x ++ w) (k .stands) ∙ sym (journal-snoc d xxh3-64 (r .ledger .closed) b);
         fit = each-snoc d (r .ledger .closed) b (k .fit) (record { count-fits = omega arith; seqno-fits = fits; fit = (fit, tt) });
       })
 

@@ -8,7 +8,7 @@ use lib.ListN.{length}
 use lib.Dec.{eqb, ltb}
 use borrow.Author.Tests.{eqb-false, ltb-false}
 use Rattle.number.specs.Limit.{limit}
-use Rattle.xxh3.specs.Xxh3.{xxh3}
+use Rattle.xxh3.specs.Xxh3.{xxh3-64}
 use Rattle.dialect.specs.declared.Dialect.{Dialect}
 use Rattle.dialect.specs.Dialect.{codeOf}
 use Rattle.dialect.specs.Good.{is-good}
@@ -78,7 +78,7 @@ module _ (d : Dialect) (size : ℕ) where
       let s = o .ready .short in
       let m = o .room in
       let y = is-good d (o .ready .fine) .size in
-      let e = one-size d xxh3 seqno p in
+      let e = one-size d xxh3-64 seqno p in
       write-keeps d size r (shut-of d size k (o .shut)) seqno p (f .0) (key-fits d g (f .1) (o .right) (omega arith)) (omega arith))
 
   keeps : (cs : List Call) → AllWords cs → (r : Standing) → Kept d size r → Kept d size (run d cs r)

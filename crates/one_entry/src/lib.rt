@@ -5,7 +5,7 @@ ghost use mathlib.Core.List.{[], _∷_};
 ghost use Prim.Native.Nat.{_≤_, _+_};
 ghost use lib.ListN.{length};
 ghost use Rattle.number.specs.Part.{front};
-ghost use Rattle.xxh3.specs.Xxh3.{xxh3};
+ghost use Rattle.xxh3.specs.Xxh3.{xxh3-64};
 ghost use Rattle.dialect.specs.Dialect.{codeOf};
 ghost use Rattle.entry.specs.Entry.{item, clear, putBatch};
 ghost use Rattle.writer.specs.Writing.{writeRefusal, writeCall};
@@ -58,7 +58,7 @@ fn fill_item_batch(
     value: &[u8],
 )
     requires { ⌜ (d .length ≤ 8) × (43 + d .length + length (now key) + length (now value) ≤ length (now buf)) ⌝ }
-    ensures { λ _. ⌜ now (buf .exit) ≡ front (putBatch d xxh3 seqno (item code keyspace (now (key .entry)) (now (value .entry)) ∷ [])) (now (buf .entry)) ⌝ }
+    ensures { λ _. ⌜ now (buf .exit) ≡ front (putBatch d xxh3-64 seqno (item code keyspace (now (key .entry)) (now (value .entry)) ∷ [])) (now (buf .entry)) ⌝ }
 {
     fill_start(buf, 1, seqno);
     fill_item(&mut buf[13..], code, d.none, keyspace, key, value);
@@ -70,7 +70,7 @@ fn fill_item_batch(
 // Assumes a magic of at most 8 bytes, and room.
 fn fill_clear_batch(buf: &mut [u8], d: Dialect, seqno: u64, keyspace: u64)
     requires { ⌜ (d .length ≤ 8) × (31 + d .length ≤ length (now buf)) ⌝ }
-    ensures { λ _. ⌜ now (buf .exit) ≡ front (putBatch d xxh3 seqno (clear keyspace ∷ [])) (now (buf .entry)) ⌝ }
+    ensures { λ _. ⌜ now (buf .exit) ≡ front (putBatch d xxh3-64 seqno (clear keyspace ∷ [])) (now (buf .entry)) ⌝ }
 {
     fill_start(buf, 1, seqno);
     fill_clear(&mut buf[13..], keyspace);

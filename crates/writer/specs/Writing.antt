@@ -6,7 +6,7 @@ use lib.ListN.{length, take, drop}
 use lib.Dec.{ltb, eqb}
 use Rattle.number.specs.Limit.{limit}
 use Rattle.number.specs.Part.{over}
-use Rattle.xxh3.specs.Xxh3.{xxh3}
+use Rattle.xxh3.specs.Xxh3.{xxh3-64}
 use Rattle.dialect.specs.declared.Dialect.{Dialect}
 use Rattle.refusal.specs.Refusal.{firstOf, whenOf, bufferRefusal, wrongKey}
 use Rattle.entry.specs.Entry.{Put, item, clear, start, body, end, put, putBatch}
@@ -124,9 +124,9 @@ abbrev pub standing : List ℕ → WriterState → List ℕ
 standing xs s = take (s .position - (s .start + hashedFrom)) (drop (s .start + hashedFrom) xs)
 
 unfoldable pub closeCall : Dialect → List ℕ → WriterState → Outcome
-closeCall d xs s = settle (closeRefusal d (length xs) s) xs s (wrote xs s (put d (end (xxh3 (standing xs s))) []) outside)
+closeCall d xs s = settle (closeRefusal d (length xs) s) xs s (wrote xs s (put d (end (xxh3-64 (standing xs s))) []) outside)
 
 -- a whole batch of one entry
 unfoldable pub writeCall : Dialect → List ℕ → WriterState → ℕ → Put → Outcome
 writeCall d xs s seqno p =
-    settle (writeRefusal d (length xs) s (keyTooLong (body p)) (length (put d (body p) []))) xs s (wrote xs s (putBatch d xxh3 seqno (p ∷ [])) outside)
+    settle (writeRefusal d (length xs) s (keyTooLong (body p)) (length (put d (body p) []))) xs s (wrote xs s (putBatch d xxh3-64 seqno (p ∷ [])) outside)

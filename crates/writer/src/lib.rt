@@ -5,7 +5,7 @@ ghost use mathlib.Core.Bool.{not, _&&_};
 ghost use Prim.Native.Nat.{_≤_, _<_, _+_};
 ghost use lib.Dec.{eqb};
 ghost use Rattle.number.specs.Limit.{limit};
-ghost use Rattle.xxh3.specs.Xxh3.{xxh3};
+ghost use Rattle.xxh3.specs.Xxh3.{xxh3-64};
 ghost use Rattle.dialect.specs.Dialect.{codeOf};
 ghost use Rattle.entry.specs.Entry.{item, clear};
 ghost use Rattle.writer.specs.Writing.{outOfRange, noRoom, sharedRefusal, openRefusal, putRefusal, closeRefusal, refusedReply, idleReply, insideReply, outsideReply, openCall, putCall, closeCall};
@@ -185,7 +185,7 @@ pub fn outside(at: usize, size: usize) -> Reply
 
 // The one-shot hash under the default secret, of a part that is within the limit since its buffer is.
 pub fn checksum_of(part: &[u8]) -> u64
-    ensures { λ r. ⌜ r ≡ xxh3 (now (part .entry)) ⌝ }
+    ensures { λ r. ⌜ r ≡ xxh3-64 (now (part .entry)) ⌝ }
 {
     hash_of(&SECRET, part)
 }

@@ -1,10 +1,12 @@
-// XXH3 with a result of 64 bits, seed 0. `k` is the secret.
+// XXH3-64 in one shot, seed 0, after the public xxHash specification, whose names its functions have. The public
+// call is `xxh3_64`. The other `pub` functions serve the crates above: each takes the secret `k` and assumes what it says.
 ghost use mathlib.Core.Path.{_≡_};
-ghost use Prim.Native.Nat.{_+_, _≤_, _<_};
-ghost use Prim.Native.Nat.{_*_};
+ghost use Prim.Native.Nat.{_+_, _*_, _≤_, _<_};
 ghost use lib.ListN.{length};
-ghost use Rattle.number.specs.Number.{le};
-ghost use Rattle.xxh3.specs.Xxh3.{secret, avalanche, avalanche64, rrmxmx, upTo3, upTo8, upTo16, mixed, upTo128, run, upTo240, low×high, lane, stripe, scrambled1, scramble, start, blockEnd, stripes, pairFold, merged, long, hash, xxh3};
+ghost use Rattle.number.specs.Number.{times, le};
+ghost use Rattle.xxh3.specs.Xxh3.{prime64-1, avalanche, avalancheXXH64, xxh3-64-empty, xxh3-64-1to3, mixed4to8, xxh3-64-4to8, xxh3-64-9to16, mixStep, xxh3-64-17to128, chunks, xxh3-64-129to240, halves, lane, accumulate, scrambled, roundScramble, initialAcc, merged, finalMerge, xxh3-64-large, hash};
+ghost use Rattle.xxh3.specs.Stripes.{blockEnd, stripes};
+ghost use Rattle.xxh3.specs.Hashed.{numberOf, tooLong, hashed};
 use number::add64;
 use number::fold64;
 use number::mul64;
@@ -12,8 +14,10 @@ use number::read_u32_le;
 use number::read_u64_le;
 use number::rotl64;
 use number::swap64;
+use number::wide8;
 use number::xorshift64;
 
+// The specification's default secret. It is named once in a run, by the outermost function, and handed down.
 pub const SECRET: [u8; 192] = [
     0xb8,
     0xfe,
@@ -209,71 +213,88 @@ pub const SECRET: [u8; 192] = [
     0x7e,
 ];
 
-fn avalanche_of(h: u64) -> u64
-    ensures { λ r. ⌜ r ≡ avalanche h ⌝ }
-{
-    xorshift64(mul64(xorshift64(h, 37), 0x165667919E3779F9), 32)
+// The checksum, or the number of a refusal.
+pub enum Hashed {
+    Sum(u64),
+    Refused(u32),
 }
 
-fn avalanche64_of(h: u64) -> u64
-    ensures { λ r. ⌜ r ≡ avalanche64 h ⌝ }
+// ---- final mixing
+
+fn avalanche(x: u64) -> u64
+    ensures { λ r. ⌜ r ≡ avalanche x ⌝ }
 {
-    let a = mul64(xorshift64(h, 33), 0xC2B2AE3D27D4EB4F);
+    xorshift64(mul64(xorshift64(x, 37), 0x165667919E3779F9), 32)
+}
+
+fn avalanche_xxh64(x: u64) -> u64
+    ensures { λ r. ⌜ r ≡ avalancheXXH64 x ⌝ }
+{
+    let a = mul64(xorshift64(x, 33), 0xC2B2AE3D27D4EB4F);
     let b = mul64(xorshift64(a, 29), 0x165667B19E3779F9);
     xorshift64(b, 32)
 }
 
-fn rrmxmx_of(h: u64, n: u64) -> u64
-    requires { ⌜ n ≤ 8 ⌝ }
-    ensures { λ r. ⌜ r ≡ rrmxmx n h ⌝ }
+// ---- small inputs
+
+fn xxh3_64_empty(k: &[u8]) -> u64
+    requires { ⌜ length (now k) ≡ 192 ⌝ }
+    ensures { λ r. ⌜ r ≡ xxh3-64-empty (now (k .entry)) ⌝ }
 {
-    let a = mul64(h ^ rotl64(h, 49) ^ rotl64(h, 24), 0x9FB21C651E98DF25);
+    avalanche_xxh64(read_u64_le(k, 56) ^ read_u64_le(k, 64))
+}
+
+fn xxh3_64_1to3(k: &[u8], s: &[u8]) -> u64
+    requires { ⌜ (length (now k) ≡ 192) × (1 ≤ length (now s)) × (length (now s) ≤ 3) ⌝ }
+    ensures { λ r. ⌜ r ≡ xxh3-64-1to3 (now (k .entry)) (now (s .entry)) ⌝ }
+{
+    let n = s.len();
+    let combined = wide8(s[n - 1])
+        + (n as u64) * 0x100
+        + wide8(s[0]) * 0x1_0000
+        + wide8(s[n / 2]) * 0x100_0000;
+    avalanche_xxh64((read_u32_le(k, 0) ^ read_u32_le(k, 4)) ^ combined)
+}
+
+fn mixed_4to8(value: u64, n: u64) -> u64
+    requires { ⌜ n ≤ 8 ⌝ }
+    ensures { λ r. ⌜ r ≡ mixed4to8 n value ⌝ }
+{
+    let a = mul64(
+        value ^ rotl64(value, 49) ^ rotl64(value, 24),
+        0x9FB21C651E98DF25,
+    );
     let b = mul64(a ^ ((a >> 35) + n), 0x9FB21C651E98DF25);
     xorshift64(b, 28)
 }
 
-fn wide8(x: u8) -> u64
-    ensures { λ r. ⌜ (r ≡ x) × (r < 256) ⌝ }
-{
-    x as u64
-}
-
-fn len_1to3(k: &[u8], s: &[u8]) -> u64
-    requires { ⌜ (length (now k) ≡ 192) × (1 ≤ length (now s)) × (length (now s) ≤ 3) ⌝ }
-    ensures { λ r. ⌜ r ≡ upTo3 (now (k .entry)) (now (s .entry)) ⌝ }
-{
-    let n = s.len();
-    let all = wide8(s[0]) * 0x1_0000
-        + wide8(s[n / 2]) * 0x100_0000
-        + wide8(s[n - 1])
-        + (n as u64) * 0x100;
-    let flip = read_u32_le(k, 0) ^ read_u32_le(k, 4);
-    avalanche64_of(all ^ flip)
-}
-
-fn len_4to8(k: &[u8], s: &[u8]) -> u64
+fn xxh3_64_4to8(k: &[u8], s: &[u8]) -> u64
     requires { ⌜ (length (now k) ≡ 192) × (4 ≤ length (now s)) × (length (now s) ≤ 8) ⌝ }
-    ensures { λ r. ⌜ r ≡ upTo8 (now (k .entry)) (now (s .entry)) ⌝ }
+    ensures { λ r. ⌜ r ≡ xxh3-64-4to8 (now (k .entry)) (now (s .entry)) ⌝ }
 {
     let n = s.len();
-    let both = read_u32_le(s, n - 4) + read_u32_le(s, 0) * 0x1_0000_0000;
-    let flip = read_u64_le(k, 8) ^ read_u64_le(k, 16);
-    rrmxmx_of(both ^ flip, n as u64)
+    let combined = read_u32_le(s, n - 4) + read_u32_le(s, 0) * 0x1_0000_0000;
+    let words = read_u64_le(k, 8) ^ read_u64_le(k, 16);
+    mixed_4to8(words ^ combined, n as u64)
 }
 
-fn len_9to16(k: &[u8], s: &[u8]) -> u64
+fn xxh3_64_9to16(k: &[u8], s: &[u8]) -> u64
     requires { ⌜ (length (now k) ≡ 192) × (9 ≤ length (now s)) × (length (now s) ≤ 16) ⌝ }
-    ensures { λ r. ⌜ r ≡ upTo16 (now (k .entry)) (now (s .entry)) ⌝ }
+    ensures { λ r. ⌜ r ≡ xxh3-64-9to16 (now (k .entry)) (now (s .entry)) ⌝ }
 {
     let n = s.len();
-    let lo = read_u64_le(s, 0) ^ (read_u64_le(k, 24) ^ read_u64_le(k, 32));
-    let hi = read_u64_le(s, n - 8) ^ (read_u64_le(k, 40) ^ read_u64_le(k, 48));
-    avalanche_of(add64(add64(n as u64, swap64(lo)), add64(hi, fold64(lo, hi))))
+    let low = (read_u64_le(k, 24) ^ read_u64_le(k, 32)) ^ read_u64_le(s, 0);
+    let high = (read_u64_le(k, 40) ^ read_u64_le(k, 48)) ^ read_u64_le(s, n - 8);
+    let value = add64(add64(n as u64, swap64(low)), high);
+    avalanche(add64(value, fold64(low, high)))
 }
 
-fn mix16(k: &[u8], s: &[u8], i: usize, j: usize) -> u64
+// ---- medium inputs
+
+// 16 bytes of s at i with 16 bytes of the secret at j.
+fn mix_step(k: &[u8], s: &[u8], i: usize, j: usize) -> u64
     requires { ⌜ (i + 16 ≤ length (now s)) × (j + 16 ≤ length (now k)) ⌝ }
-    ensures { λ r. ⌜ r ≡ mixed (now (k .entry)) (now (s .entry)) i j ⌝ }
+    ensures { λ r. ⌜ r ≡ mixStep (now (k .entry)) (now (s .entry)) i j ⌝ }
 {
     fold64(
         read_u64_le(s, i) ^ read_u64_le(k, j),
@@ -281,32 +302,32 @@ fn mix16(k: &[u8], s: &[u8], i: usize, j: usize) -> u64
     )
 }
 
-fn len_17to128(k: &[u8], s: &[u8]) -> u64
+fn xxh3_64_17to128(k: &[u8], s: &[u8]) -> u64
     requires { ⌜ (length (now k) ≡ 192) × (17 ≤ length (now s)) × (length (now s) ≤ 128) ⌝ }
-    ensures { λ r. ⌜ r ≡ upTo128 (now (k .entry)) (now (s .entry)) ⌝ }
+    ensures { λ r. ⌜ r ≡ xxh3-64-17to128 (now (k .entry)) (now (s .entry)) ⌝ }
 {
     let n = s.len();
     let mut acc = mul64(n as u64, 0x9E3779B185EBCA87);
     let mut i = (n - 1) / 32 + 1;
     while 0 < i {
         i -= 1;
-        acc = add64(acc, mix16(k, s, i * 16, i * 32));
-        acc = add64(acc, mix16(k, s, n - i * 16 - 16, i * 32 + 16));
+        acc = add64(acc, mix_step(k, s, i * 16, i * 32));
+        acc = add64(acc, mix_step(k, s, n - i * 16 - 16, i * 32 + 16));
     }
-    avalanche_of(acc)
+    avalanche(acc)
 }
 
-// m pieces of 16 bytes from i on, with the secret from j on, added to a.
-fn run_of(k: &[u8], s: &[u8], m: usize, i: usize, j: usize, a: u64) -> u64
+// m chunks of 16 bytes from i on, with the secret from j on, added to a.
+fn chunks(k: &[u8], s: &[u8], m: usize, i: usize, j: usize, a: u64) -> u64
     requires { ⌜ (i + m * 16 ≤ length (now s)) × (j + m * 16 ≤ length (now k)) ⌝ }
-    ensures { λ r. ⌜ r ≡ run (now (k .entry)) (now (s .entry)) m i j a ⌝ }
+    ensures { λ r. ⌜ r ≡ chunks (now (k .entry)) (now (s .entry)) m i j a ⌝ }
 {
     let mut acc = a;
     let mut left = m;
     let mut at = i;
     let mut key = j;
     while 0 < left {
-        acc = add64(acc, mix16(k, s, at, key));
+        acc = add64(acc, mix_step(k, s, at, key));
         at += 16;
         key += 16;
         left -= 1;
@@ -314,72 +335,20 @@ fn run_of(k: &[u8], s: &[u8], m: usize, i: usize, j: usize, a: u64) -> u64
     acc
 }
 
-fn len_129to240(k: &[u8], s: &[u8]) -> u64
+fn xxh3_64_129to240(k: &[u8], s: &[u8]) -> u64
     requires { ⌜ (length (now k) ≡ 192) × (129 ≤ length (now s)) × (length (now s) ≤ 240) ⌝ }
-    ensures { λ r. ⌜ r ≡ upTo240 (now (k .entry)) (now (s .entry)) ⌝ }
+    ensures { λ r. ⌜ r ≡ xxh3-64-129to240 (now (k .entry)) (now (s .entry)) ⌝ }
 {
     let n = s.len();
-    let first = run_of(k, s, 8, 0, 0, mul64(n as u64, 0x9E3779B185EBCA87));
-    let second = run_of(k, s, n / 16 - 8, 128, 3, avalanche_of(first));
-    avalanche_of(add64(second, mix16(k, s, n - 16, 119)))
+    let first = chunks(k, s, 8, 0, 0, mul64(n as u64, 0x9E3779B185EBCA87));
+    let second = chunks(k, s, n / 16 - 8, 128, 3, avalanche(first));
+    avalanche(add64(second, mix_step(k, s, n - 16, 119)))
 }
 
-fn low_by_high(x: u64) -> u64
-    ensures { λ r. ⌜ r ≡ low×high x ⌝ }
-{
-    (x % 0x1_0000_0000) * (x / 0x1_0000_0000)
-}
+// ---- large inputs
 
-// One accumulator a with the data at i, its neighbour's data at o, and the secret at j.
-fn lane_of(k: &[u8], s: &[u8], a: u64, i: usize, o: usize, j: usize) -> u64
-    requires { ⌜ (i + 8 ≤ length (now s)) × (o + 8 ≤ length (now s)) × (j + 8 ≤ length (now k)) ⌝ }
-    ensures { λ r. ⌜ r ≡ lane a (le 8 (now (s .entry)) i) (le 8 (now (s .entry)) o) (le 8 (now (k .entry)) j) ⌝ }
-{
-    let x = low_by_high(read_u64_le(s, i) ^ read_u64_le(k, j));
-    add64(a, add64(read_u64_le(s, o), x))
-}
-
-pub fn stripe_of(k: &[u8], s: &[u8], i: usize, j: usize, a: [u64; 8]) -> [u64; 8]
-    requires { ⌜ (i + 64 ≤ length (now s)) × (j + 64 ≤ length (now k)) ⌝ }
-    ensures { λ r. ⌜ r ≡ stripe (now (k .entry)) (now (s .entry)) i j a ⌝ }
-{
-    [
-        lane_of(k, s, a[0], i, i + 8, j),
-        lane_of(k, s, a[1], i + 8, i, j + 8),
-        lane_of(k, s, a[2], i + 16, i + 24, j + 16),
-        lane_of(k, s, a[3], i + 24, i + 16, j + 24),
-        lane_of(k, s, a[4], i + 32, i + 40, j + 32),
-        lane_of(k, s, a[5], i + 40, i + 32, j + 40),
-        lane_of(k, s, a[6], i + 48, i + 56, j + 48),
-        lane_of(k, s, a[7], i + 56, i + 48, j + 56),
-    ]
-}
-
-fn scrambled_of(k: &[u8], a: u64, j: usize) -> u64
-    requires { ⌜ j + 8 ≤ length (now k) ⌝ }
-    ensures { λ r. ⌜ r ≡ scrambled1 a (le 8 (now (k .entry)) j) ⌝ }
-{
-    mul64(xorshift64(a, 47) ^ read_u64_le(k, j), 0x9E3779B1)
-}
-
-fn scramble_of(k: &[u8], a: [u64; 8]) -> [u64; 8]
-    requires { ⌜ length (now k) ≡ 192 ⌝ }
-    ensures { λ r. ⌜ r ≡ scramble (now (k .entry)) a ⌝ }
-{
-    [
-        scrambled_of(k, a[0], 128),
-        scrambled_of(k, a[1], 136),
-        scrambled_of(k, a[2], 144),
-        scrambled_of(k, a[3], 152),
-        scrambled_of(k, a[4], 160),
-        scrambled_of(k, a[5], 168),
-        scrambled_of(k, a[6], 176),
-        scrambled_of(k, a[7], 184),
-    ]
-}
-
-pub fn start_of() -> [u64; 8]
-    ensures { λ r. ⌜ r ≡ start ⌝ }
+pub fn initial_acc() -> [u64; 8]
+    ensures { λ r. ⌜ r ≡ initialAcc ⌝ }
 {
     [
         0xC2B2AE3D,
@@ -393,14 +362,75 @@ pub fn start_of() -> [u64; 8]
     ]
 }
 
-fn block_end(k: &[u8], m: usize, a: [u64; 8]) -> [u64; 8]
-    requires { ⌜ length (now k) ≡ 192 ⌝ }
-    ensures { λ r. ⌜ r ≡ blockEnd (now (k .entry)) m a ⌝ }
+fn halves(value: u64) -> u64
+    ensures { λ r. ⌜ r ≡ halves value ⌝ }
 {
-    if m % 16 == 15 { scramble_of(k, a) } else { a }
+    (value % 0x1_0000_0000) * (value / 0x1_0000_0000)
 }
 
-pub fn stripes_of(k: &[u8], s: &[u8], m: usize, i: usize, t: usize, a: [u64; 8]) -> [u64; 8]
+// The accumulator n, with the stripe at i and the secret at j; o is its neighbour's number.
+fn accumulate_lane(k: &[u8], s: &[u8], i: usize, j: usize, acc: u64, n: usize, o: usize) -> u64
+    requires { ⌜ (i + 64 ≤ length (now s)) × (j + 64 ≤ length (now k)) × (n < 8) × (o < 8) ⌝ }
+    ensures { λ r. ⌜ r ≡ lane acc (le 8 (now (s .entry)) (i + 8 * o)) (le 8 (now (s .entry)) (i + 8 * n)) (le 8 (now (k .entry)) (j + 8 * n)) ⌝ }
+{
+    let value = read_u64_le(s, i + 8 * n) ^ read_u64_le(k, j + 8 * n);
+    add64(add64(acc, read_u64_le(s, i + 8 * o)), halves(value))
+}
+
+// Assumes a stripe at i of s and 64 bytes at j of the secret.
+pub fn accumulate(k: &[u8], s: &[u8], i: usize, j: usize, a: [u64; 8]) -> [u64; 8]
+    requires { ⌜ (i + 64 ≤ length (now s)) × (j + 64 ≤ length (now k)) ⌝ }
+    ensures { λ r. ⌜ r ≡ accumulate (now (k .entry)) (now (s .entry)) i j a ⌝ }
+{
+    [
+        accumulate_lane(k, s, i, j, a[0], 0, 1),
+        accumulate_lane(k, s, i, j, a[1], 1, 0),
+        accumulate_lane(k, s, i, j, a[2], 2, 3),
+        accumulate_lane(k, s, i, j, a[3], 3, 2),
+        accumulate_lane(k, s, i, j, a[4], 4, 5),
+        accumulate_lane(k, s, i, j, a[5], 5, 4),
+        accumulate_lane(k, s, i, j, a[6], 6, 7),
+        accumulate_lane(k, s, i, j, a[7], 7, 6),
+    ]
+}
+
+fn scramble_lane(k: &[u8], acc: u64, j: usize) -> u64
+    requires { ⌜ j + 8 ≤ length (now k) ⌝ }
+    ensures { λ r. ⌜ r ≡ scrambled acc (le 8 (now (k .entry)) j) ⌝ }
+{
+    mul64(xorshift64(acc, 47) ^ read_u64_le(k, j), 0x9E3779B1)
+}
+
+fn round_scramble(k: &[u8], a: [u64; 8]) -> [u64; 8]
+    requires { ⌜ length (now k) ≡ 192 ⌝ }
+    ensures { λ r. ⌜ r ≡ roundScramble (now (k .entry)) a ⌝ }
+{
+    [
+        scramble_lane(k, a[0], 128),
+        scramble_lane(k, a[1], 136),
+        scramble_lane(k, a[2], 144),
+        scramble_lane(k, a[3], 152),
+        scramble_lane(k, a[4], 160),
+        scramble_lane(k, a[5], 168),
+        scramble_lane(k, a[6], 176),
+        scramble_lane(k, a[7], 184),
+    ]
+}
+
+fn block_end(k: &[u8], t: usize, a: [u64; 8]) -> [u64; 8]
+    requires { ⌜ length (now k) ≡ 192 ⌝ }
+    ensures { λ r. ⌜ r ≡ blockEnd (now (k .entry)) t a ⌝ }
+{
+    if t % 16 == 15 {
+        round_scramble(k, a)
+    } else {
+        a
+    }
+}
+
+// m stripes of s from i on, the first of which is the stripe t of the input. Assumes that they are there, and that the
+// input's stripes can be counted.
+pub fn accumulate_stripes(k: &[u8], s: &[u8], m: usize, i: usize, t: usize, a: [u64; 8]) -> [u64; 8]
     requires { ⌜ (length (now k) ≡ 192) × (i + m * 64 ≤ length (now s)) × (t + m < 0x800_0000_0000_0000) ⌝ }
     ensures { λ r. ⌜ r ≡ stripes (now (k .entry)) (now (s .entry)) m i t a ⌝ }
 {
@@ -409,7 +439,7 @@ pub fn stripes_of(k: &[u8], s: &[u8], m: usize, i: usize, t: usize, a: [u64; 8])
     let mut at = i;
     let mut count = t;
     while 0 < left {
-        acc = block_end(k, count, stripe_of(k, s, at, count % 16 * 8, acc));
+        acc = block_end(k, count, accumulate(k, s, at, count % 16 * 8, acc));
         at += 64;
         count += 1;
         left -= 1;
@@ -417,60 +447,68 @@ pub fn stripes_of(k: &[u8], s: &[u8], m: usize, i: usize, t: usize, a: [u64; 8])
     acc
 }
 
-fn pair_of(k: &[u8], j: usize, x: u64, y: u64) -> u64
+fn merge_pair(k: &[u8], j: usize, x: u64, y: u64) -> u64
     requires { ⌜ j + 16 ≤ length (now k) ⌝ }
-    ensures { λ r. ⌜ r ≡ pairFold (now (k .entry)) j x y ⌝ }
+    ensures { λ r. ⌜ r ≡ merged (now (k .entry)) j x y ⌝ }
 {
     fold64(x ^ read_u64_le(k, j), y ^ read_u64_le(k, j + 8))
 }
 
-pub fn merged_of(k: &[u8], n: u64, a: [u64; 8]) -> u64
+// The hash of a large input of n bytes, from its accumulators. Assumes a secret of 192 bytes.
+pub fn final_merge(k: &[u8], n: u64, a: [u64; 8]) -> u64
     requires { ⌜ length (now k) ≡ 192 ⌝ }
-    ensures { λ r. ⌜ r ≡ merged (now (k .entry)) n a ⌝ }
+    ensures { λ r. ⌜ r ≡ finalMerge (now (k .entry)) (times n prime64-1) 11 a ⌝ }
 {
-    let t = add64(mul64(n, 0x9E3779B185EBCA87), pair_of(k, 11, a[0], a[1]));
-    let u = add64(t, pair_of(k, 27, a[2], a[3]));
-    let v = add64(u, pair_of(k, 43, a[4], a[5]));
-    avalanche_of(add64(v, pair_of(k, 59, a[6], a[7])))
+    let t = add64(mul64(n, 0x9E3779B185EBCA87), merge_pair(k, 11, a[0], a[1]));
+    let u = add64(t, merge_pair(k, 27, a[2], a[3]));
+    let v = add64(u, merge_pair(k, 43, a[4], a[5]));
+    avalanche(add64(v, merge_pair(k, 59, a[6], a[7])))
 }
 
-fn len_long(k: &[u8], s: &[u8]) -> u64
+fn xxh3_64_large(k: &[u8], s: &[u8]) -> u64
     requires { ⌜ (length (now k) ≡ 192) × (241 ≤ length (now s)) ⌝ }
-    ensures { λ r. ⌜ r ≡ long (now (k .entry)) (now (s .entry)) ⌝ }
+    ensures { λ r. ⌜ r ≡ xxh3-64-large (now (k .entry)) (now (s .entry)) ⌝ }
 {
     let n = s.len();
-    let a = stripes_of(k, s, (n - 1) / 64, 0, 0, start_of());
-    merged_of(k, n as u64, stripe_of(k, s, n - 64, 121, a))
+    let a = accumulate_stripes(k, s, (n - 1) / 64, 0, 0, initial_acc());
+    final_merge(k, n as u64, accumulate(k, s, n - 64, 121, a))
 }
 
+// ---- XXH3-64
+
+// For callers that know their length to be within the limit: it refuses nothing. Assumes a secret of 192 bytes.
 pub fn hash_of(k: &[u8], s: &[u8]) -> u64
     requires { ⌜ length (now k) ≡ 192 ⌝ }
     ensures { λ r. ⌜ r ≡ hash (now (k .entry)) (now (s .entry)) ⌝ }
 {
     let n = s.len();
     if n == 0 {
-        return avalanche64_of(read_u64_le(k, 56) ^ read_u64_le(k, 64));
+        return xxh3_64_empty(k);
     }
     if n <= 3 {
-        return len_1to3(k, s);
+        return xxh3_64_1to3(k, s);
     }
     if n <= 8 {
-        return len_4to8(k, s);
+        return xxh3_64_4to8(k, s);
     }
     if n <= 16 {
-        return len_9to16(k, s);
+        return xxh3_64_9to16(k, s);
     }
     if n <= 128 {
-        return len_17to128(k, s);
+        return xxh3_64_17to128(k, s);
     }
     if n <= 240 {
-        return len_129to240(k, s);
+        return xxh3_64_129to240(k, s);
     }
-    len_long(k, s)
+    xxh3_64_large(k, s)
 }
 
-pub fn xxh3_64(s: &[u8]) -> u64
-    ensures { λ r. ⌜ r ≡ xxh3 (now (s .entry)) ⌝ }
+// XXH3-64 of s, or 21 exactly if s exceeds 4,294,967,295 bytes.
+pub fn xxh3_64(s: &[u8]) -> Hashed
+    ensures { λ r. ⌜ (r ≡ hashed (now (s .entry))) × (numberOf r ≡ tooLong (length (now (s .entry)))) ⌝ }
 {
-    hash_of(&SECRET, s)
+    if 4294967295 < s.len() {
+        return Hashed::Refused(21);
+    }
+    Hashed::Sum(hash_of(&SECRET, s))
 }

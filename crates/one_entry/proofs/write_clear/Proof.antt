@@ -4,7 +4,7 @@ use Rattle.encode.specs.Encoding.{keyTooLong}
 use Rattle.entry.specs.Sizes.{clear-size, one-size}
 use Rattle.entry.specs.Entry.{clear, body, put, putBatch}
 use Rattle.dialect.specs.Good.{is-good}
-use Rattle.xxh3.specs.Xxh3.{xxh3}
+use Rattle.xxh3.specs.Xxh3.{xxh3-64}
 use Rattle.number.specs.Part.{tail-room, tail-put}
 use lib.ListN.{length}
 use native.Mathlib.Omega.{arith}
@@ -92,8 +92,8 @@ returns-2 c =
     let l : length (put (a .d) (body p) []) ≡ 9 = clear-size (a .d) (a .keyspace) in
     let e = ap (writeRefusal (a .d) (length (a .buf .now)) (a .s) false) (sym l) in
     let r = write-zero _ _ _ _ _ (sym (c .before .before .before .before .before .before .before .write-refusal .ensures) ∙ c .before .before .before .before .before .before .if1 .left) in
-    let b = putBatch (a .d) xxh3 (a .seqno) (p ∷ []) in
-    let q : length b ≡ 31 + a .d .length = omega (arith, one-size (a .d) xxh3 (a .seqno) p, l, is-good (a .d) (r .ready .fine) .size) in
+    let b = putBatch (a .d) xxh3-64 (a .seqno) (p ∷ []) in
+    let q : length b ≡ 31 + a .d .length = omega (arith, one-size (a .d) xxh3-64 (a .seqno) p, l, is-good (a .d) (r .ready .fine) .size) in
     outside-leaves _ _ _ _ b (31 + a .d .length) _ _ (c .before .before .before .before .before .before .before .write-refusal .ensures ∙ e) (c .before .before .before .before .before .before .if1 .left) q (c .outside .ensures)
     (tail-put (a .s .position) b (a .buf .now) _ (c .before .before .before .fill-clear-batch .ensures))
 

@@ -5,7 +5,7 @@ use Rattle.entry.specs.Sizes.{item-size, one-size}
 use Rattle.entry.specs.Entry.{item, body, put, putBatch}
 use Rattle.dialect.specs.Good.{is-good}
 use Rattle.dialect.specs.Dialect.{codeOf}
-use Rattle.xxh3.specs.Xxh3.{xxh3}
+use Rattle.xxh3.specs.Xxh3.{xxh3-64}
 use Rattle.number.specs.Part.{over, tail-room, tail-put}
 use lib.ListN.{length}
 use native.Mathlib.Omega.{arith}
@@ -121,9 +121,9 @@ returns-2 c =
     let l : length (put (a .d) (body p) []) ≡ n = item-size (a .d) k (a .keyspace) (a .key .now) (a .value .now) in
     let e : Bool → ℕ = λ b. writeRefusal (a .d) (length (a .buf .now)) (a .s) b n in
     let r = write-zero _ _ _ _ _ (sym (c .before .before .before .before .before .before .before .before .write-refusal .ensures) ∙ c .before .before .before .before .before .before .before .if1 .left) in
-    let b : ℕ → List ℕ = λ j. putBatch (a .d) xxh3 (a .seqno) (item j (a .keyspace) (a .key .now) (a .value .now) ∷ []) in
+    let b : ℕ → List ℕ = λ j. putBatch (a .d) xxh3-64 (a .seqno) (item j (a .keyspace) (a .key .now) (a .value .now) ∷ []) in
     let t = 43 + a .d .length + length (a .key .now) + length (a .value .now) in
-    let q : length (b k) ≡ t = omega (arith, one-size (a .d) xxh3 (a .seqno) p, l, is-good (a .d) (r .ready .fine) .size) in
+    let q : length (b k) ≡ t = omega (arith, one-size (a .d) xxh3-64 (a .seqno) p, l, is-good (a .d) (r .ready .fine) .size) in
     outside-leaves _ _ _ _ (b k) t _ _ (c .before .before .before .before .before .before .before .before .write-refusal .ensures ∙ ap e (c .before .before .before .before .before .before .before .before .before .long-key .ensures) ∙ ap (writeRefusal (a .d) (length (a .buf .now)) (a .s) (keyTooLong (body p))) (sym l)) (c .before .before .before .before .before .before .before .if1 .left) q (c .outside .ensures)
     (tail-put (a .s .position) (b (c .before .before .before .before .before .code .result)) (a .buf .now) _ (c .before .before .before .fill-item-batch .ensures)
     ∙ ap (λ (j : ℕ). over (a .s .position) (b j) (a .buf .now)) (c .before .before .before .before .before .code .ensures))

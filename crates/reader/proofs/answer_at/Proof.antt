@@ -1,6 +1,6 @@
 use borrow.Author.Needs.{needs}
 use mathlib.Core.Path.{refl, sym, _∙_}
-use Rattle.xxh3.specs.Xxh3.{secret}
+use Rattle.xxh3.specs.Xxh3.{defaultSecret}
 use Rattle.reader.specs.Reading.{answered}
 use Rattle.reader.proofs.State.{step-zero, refused, taken}
 use Rattle.reader.proofs.answer_at.Statement.{statement}
@@ -30,7 +30,7 @@ batch-at-requires c κs =
     (refl, s .within, s .short, s .fine)
 
 returns-3 : tie.Need-returns-3
-unfolding answered secret
+unfolding answered defaultSecret
 returns-3 c = rw (← c .before .before .before .before .step-refusal .ensures) (taken _ _ _ (c .before .before .before .if1 .left) (rw (c .before .before .if2 .left) (c .batch-at .ensures)))
 
 pub answer-at-spec : {M : Type 1} → statement M

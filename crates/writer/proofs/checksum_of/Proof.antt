@@ -1,4 +1,4 @@
-use Rattle.xxh3.specs.Xxh3.{xxh3, secret}
+use Rattle.xxh3.specs.Xxh3.{defaultSecret}
 use borrow.Author.Needs.{needs}
 use Rattle.writer.proofs.checksum_of.Statement.{statement}
 use Rattle.writer.proofs.checksum_of.Tie as tie
@@ -13,7 +13,7 @@ hash-of-requires : tie.Need-hash-of-requires
 hash-of-requires c κs = search needs
 
 returns : tie.Need-returns
-unfolding xxh3 secret
+unfolding defaultSecret
 returns c = c .hash-of .ensures
 
 pub checksum-of-spec : {M : Type 1} → statement M

@@ -3,7 +3,7 @@ use Rattle.writer.specs.Writing.{closeCall, standing}
 use Rattle.encode.specs.Laws.{end-length}
 use Rattle.entry.specs.Entry.{end, layout, put}
 use Rattle.dialect.specs.Good.{is-good}
-use Rattle.xxh3.specs.Xxh3.{xxh3}
+use Rattle.xxh3.specs.Xxh3.{xxh3-64}
 use Rattle.number.specs.Part.{over, tail-room, tail-put}
 use lib.ListN.{length}
 use native.Mathlib.Omega.{arith}
@@ -128,7 +128,7 @@ unfolding closeCall layout
 returns-2 c =
     let a = c .before .before .before .before .before .before .before .before .before .before .before .before .before .args in
     let r = close-zero _ _ _ (sym (c .before .before .before .before .before .before .before .before .before .before .before .close-refusal .ensures) ∙ c .before .before .before .before .before .before .before .before .before .before .if1 .left) in
-    let sum = xxh3 (standing (a .buf .now) (a .s)) in
+    let sum = xxh3-64 (standing (a .buf .now) (a .s)) in
     outside-leaves _ _ _ _ (put (a .d) (end sum) []) (9 + a .d .length) _ _ (c .before .before .before .before .before .before .before .before .before .before .before .close-refusal .ensures) (c .before .before .before .before .before .before .before .before .before .before .if1 .left) (end-length (a .d) sum (r .ready .fine)) (c .outside .ensures)
     (tail-put (a .s .position) (put (a .d) (end (c .before .before .before .before .before .before .checksum-of .result)) []) (a .buf .now) _ (c .before .before .before .before .fill-end .ensures)
     ∙ ap (λ (k : ℕ). over (a .s .position) (put (a .d) (end k) []) (a .buf .now)) (c .before .before .before .before .before .before .checksum-of .ensures))
