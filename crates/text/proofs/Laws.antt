@@ -48,11 +48,6 @@ last-digit n x e = rw e
 
 -- ---- two digits to a byte
 
-pub length-hexadecimal : (s : List ℕ) → length (hexadecimal s) ≡ 2 * length s
-unfolding hexadecimal
-length-hexadecimal [] = refl
-length-hexadecimal (b ∷ s) = let h = length-hexadecimal s in omega arith
-
 hexadecimal-append : (s t : List ℕ) → hexadecimal (s ++ t) ≡ hexadecimal s ++ hexadecimal t
 unfolding hexadecimal
 hexadecimal-append [] t = refl

@@ -1,4 +1,5 @@
-use Rattle.text.proofs.Laws.{length-hexadecimal, next-byte}
+use Rattle.text.specs.Sizes.{length-hexadecimal}
+use Rattle.text.proofs.Laws.{next-byte}
 use Rattle.text.specs.Written.{Written, named}
 use Rattle.text.specs.Text.{hexadecimal}
 use lib.Seq.{take-all}
