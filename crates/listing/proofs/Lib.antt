@@ -1,3 +1,4 @@
 pub mod Body
+pub mod Names
 pub mod Sizes
 pub mod Steps

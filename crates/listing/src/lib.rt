@@ -1,10 +1,115 @@
-// The listing.
+// The dump: what a reading of a journal accepts, as text, line by line.
+// Public: list, and its answer Listed.
+ghost use mathlib.Core.Path.{_≡_};
+ghost use mathlib.Core.Bool.{true};
+ghost use mathlib.Core.List.{_++_};
+ghost use Prim.Native.Nat.{_+_, _≤_};
+ghost use lib.ListN.{length};
+ghost use lib.Dec.{ltb};
+ghost use Rattle.plan.specs.Plan.{runAt};
+ghost use Rattle.dialect.specs.Dialect.{good};
+ghost use Rattle.entry.specs.Entry.{item, entry};
+ghost use Rattle.text.specs.Text.{ascii, decimal, orDash};
+ghost use Rattle.text.specs.Written.{Written};
+ghost use Rattle.listing.specs.Listing.{journalLine, batchLine, typeName, entryLine, roomFor};
+ghost use Rattle.listing.specs.Walk.{lineOf, nextOf, linesAt};
+use dialect::Dialect;
+use entry::Decoded;
+use entry::entry_at;
+use text::put_bytes;
+use text::put_named;
+use text::put_word;
+
+// How many bytes were written, or 20, 21 or 27.
 pub enum Listed {
     Wrote(usize),
     Refused(u32),
 }
 
-fn is_tight(n: usize, room: usize) -> bool {
+// An entry's line: how many bytes it has, and where the next entry begins.
+pub struct Printed {
+    pub put: usize,
+    pub next: usize,
+}
+
+// ---- lines: each assumes room for its bytes
+
+// A word and a number at the end of a line.
+fn put_last(out: &mut [u8], word: &[u8], n: u64) -> usize
+    requires { ⌜ length (now word) + length (decimal n) + 1 ≤ length (now out) ⌝ }
+    ensures { λ r. ⌜ Written (now (word .entry) ++ decimal n ++ ascii "\n") (now (out .entry)) (now (out .exit)) r ⌝ }
+{
+    let at = put_named(out, word, n);
+    at + put_word(&mut out[at..], b"\n")
+}
+
+fn put_journal(out: &mut [u8], n: usize) -> usize
+    requires { ⌜ length (journalLine n) ≤ length (now out) ⌝ }
+    ensures { λ r. ⌜ Written (journalLine n) (now (out .entry)) (now (out .exit)) r ⌝ }
+{
+    let at = put_named(out, b"journal ", n as u64);
+    at + put_word(&mut out[at..], b" bytes\n")
+}
+
+fn put_accepted(out: &mut [u8], position: usize, seqno: u64, count: u64) -> usize
+    requires { ⌜ length (batchLine position seqno count) ≤ length (now out) ⌝ }
+    ensures { λ r. ⌜ Written (batchLine position seqno count) (now (out .entry)) (now (out .exit)) r ⌝ }
+{
+    let seq_at = put_named(out, b"@", position as u64);
+    let entries_at = seq_at + put_named(&mut out[seq_at..], b" seq ", seqno);
+    entries_at + put_last(&mut out[entries_at..], b" entries ", count)
+}
+
+// The type of an Item, between two spaces.
+fn put_type(out: &mut [u8], d: Dialect, code: u8) -> usize
+    requires { ⌜ 2 + length (typeName d code) ≤ length (now out) ⌝ }
+    ensures { λ r. ⌜ Written (ascii " " ++ typeName d code ++ ascii " ") (now (out .entry)) (now (out .exit)) r ⌝ }
+{
+    if code == d.value {
+        return put_word(out, b" V ");
+    }
+    if code == d.tombstone {
+        return put_word(out, b" T ");
+    }
+    if code == d.weak {
+        return put_word(out, b" W ");
+    }
+    put_word(out, b" Vb ")
+}
+
+// Bytes, and what stands behind them.
+fn put_part(out: &mut [u8], s: &[u8], behind: &[u8]) -> usize
+    requires { ⌜ length (orDash (now s)) + length (now behind) ≤ length (now out) ⌝ }
+    ensures { λ r. ⌜ Written (orDash (now (s .entry)) ++ now (behind .entry)) (now (out .entry)) (now (out .exit)) r ⌝ }
+{
+    let at = put_bytes(out, s);
+    at + put_word(&mut out[at..], behind)
+}
+
+// The key and the value of an Item, at the end of its line.
+fn put_pair(out: &mut [u8], key: &[u8], value: &[u8]) -> usize
+    requires { ⌜ length (orDash (now key)) + length (orDash (now value)) + 2 ≤ length (now out) ⌝ }
+    ensures { λ r. ⌜ Written (orDash (now (key .entry)) ++ ascii " " ++ (orDash (now (value .entry)) ++ ascii "\n")) (now (out .entry)) (now (out .exit)) r ⌝ }
+{
+    let at = put_part(out, key, b" ");
+    at + put_part(&mut out[at..], value, b"\n")
+}
+
+fn put_item(out: &mut [u8], d: Dialect, code: u8, keyspace: u64, key: &[u8], value: &[u8]) -> usize
+    requires { ⌜ length (entryLine d (item code keyspace (now key) (now value))) ≤ length (now out) ⌝ }
+    ensures { λ r. ⌜ Written (entryLine d (item code keyspace (now (key .entry)) (now (value .entry)))) (now (out .entry)) (now (out .exit)) r ⌝ }
+{
+    let type_at = put_named(out, b"item ", keyspace);
+    let pair_at = type_at + put_type(&mut out[type_at..], d, code);
+    pair_at + put_pair(&mut out[pair_at..], key, value)
+}
+
+// ---- the listing
+
+// Whether there are fewer than 4 * n + 128 bytes of room: no product is made, so none wraps.
+fn is_tight(n: usize, room: usize) -> bool
+    ensures { λ r. ⌜ r ≡ ltb room (roomFor n) ⌝ }
+{
     if room < 128 {
         return true;
     }

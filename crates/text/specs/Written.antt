@@ -12,10 +12,6 @@ pub record Written (w xs ys : List ℕ) (n : ℕ) : Type 0 where
   pub bytes : ys ≡ front w xs
   pub count : n ≡ length w
 
--- where there is room for w and v there is room for w
-pub shorter : (w v : List ℕ) {n : ℕ} → length (w ++ v) ≤ n → length w ≤ n
-shorter w v {n} h = let l : length w + length v ≤ n = rw (length-append w v) at h in omega arith
-
 module _ {w xs zs : List ℕ} {n : ℕ} (p : Written w xs zs n) where
   -- the part stays as long as it was
   pub still : length w ≤ length xs → length zs ≡ length xs
@@ -25,10 +21,9 @@ module _ {w xs zs : List ℕ} {n : ℕ} (p : Written w xs zs n) where
   pub fits : length w ≤ length xs → n ≤ length zs
   fits h = let e = still h in let c = p .count in omega arith
 
-  -- behind w is room for v
-  pub room : (v : List ℕ) → length (w ++ v) ≤ length xs → length v ≤ length (midOf n (length zs - n) zs)
-  room v h =
-      let l : length w + length v ≤ length xs = rw (length-append w v) at h in
+  -- behind w is room for k bytes more
+  pub room : (k : ℕ) → length w + k ≤ length xs → k ≤ length (midOf n (length zs - n) zs)
+  room k h =
       let e : length zs ≡ length xs = still (omega arith) in
       let c : n ≡ length w = p .count in
       rw (tail-mid n zs, length-drop n zs) (omega arith)
