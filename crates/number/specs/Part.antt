@@ -75,3 +75,9 @@ tail-put a w xs ys e = tail-back a xs ys ∙ ap (λ (l : List ℕ). take a xs ++
 -- w stands at the front, and the tail behind it comes back with v over its front
 pub then-put : (n : ℕ) (w v xs zs ys : List ℕ) → length w ≡ n → zs ≡ front w xs → ys ≡ front v (midOf n (length zs - n) zs) → tailed n zs ys ≡ front (w ++ v) xs
 then-put n w v xs zs ys h e f = tail-put n v zs ys f ∙ ap (over n v) e ∙ over-front n w v xs h
+
+-- a part of just n bytes, filled by the n bytes of w
+pub filled : (n : ℕ) (w xs zs : List ℕ) → length w ≡ n → length xs ≡ n → zs ≡ front w xs → zs ≡ w
+filled n w xs zs h k e =
+    let none : drop (length w) xs ≡ [] = drop-of-length-le xs {i = length w} (omega arith) in
+    e ∙ ap (λ (l : List ℕ). w ++ l) none ∙ append-nil w
