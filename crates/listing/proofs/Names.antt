@@ -8,7 +8,7 @@ use native.Mathlib.Omega.{arith}
 use lib.Dec.{ltb}
 use borrow.Author.Tests.{eq-eqb, ne-eqb, lt-ltb, le-ltb, ltb-true, ltb-false}
 use Rattle.dialect.specs.declared.Dialect.{Dialect}
-use Rattle.entry.specs.Entry.{item}
+use Rattle.entry.specs.Entry.{item, clear}
 use Rattle.text.specs.Text.{ascii, decimal, orDash}
 use Rattle.listing.specs.Listing.{batchLine, typeName, entryLine, roomFor}
 
@@ -44,6 +44,10 @@ batch-pieces position seqno count = go (ascii "@") (decimal position) (ascii " s
   where
     go : (a b c d e f g : List ℕ) → (a ++ b) ++ (c ++ d) ++ (e ++ f ++ g) ≡ a ++ b ++ c ++ d ++ e ++ f ++ g
     go a b c d e f g = simp append-assoc
+
+pub clear-pieces : (d : Dialect) (keyspace : ℕ) → ascii "clear " ++ decimal keyspace ++ ascii "\n" ≡ entryLine d (clear keyspace)
+unfolding entryLine
+clear-pieces d keyspace = refl
 
 pub item-pieces : (d : Dialect) (code keyspace : ℕ) (key value : List ℕ)
     → (ascii "item " ++ decimal keyspace) ++ (ascii " " ++ typeName d code ++ ascii " ") ++ (orDash key ++ ascii " " ++ (orDash value ++ ascii "\n")) ≡ entryLine d (item code keyspace key value)

@@ -16,10 +16,8 @@ use Rattle.dialect.specs.Dialect.{trailer}
 use Rattle.entry.specs.Entry.{Put, item, clear, body, Stop, entry}
 use Rattle.entry.proofs.Exact.{ItemAt, exact-of}
 use Rattle.reader.specs.declared.Reader.{Reader}
-use Rattle.reader.specs.declared.Answer.the-variants.{Ended}
 use Rattle.reader.specs.Batch.{Batch, batch, batchPlan}
-use Rattle.reader.specs.Found.{outcomeOf}
-use Rattle.reader.specs.Reading.{reader, after, keep}
+use Rattle.reader.specs.Reading.{keep, ending}
 use Rattle.reader.proofs.Bridge.{hungry}
 use Rattle.text.specs.Text.{ascii, decimal, orDash}
 use Rattle.text.specs.Sizes.{length-decimal, length-dash}
@@ -99,8 +97,8 @@ module _ (d : Dialect) where
 
   reading-bound : (n at : ℕ) {x : List ℕ} → Parsed t (hungry d (hash secret)) x → length (readingLines d n (read t at x)) ≤ 4 * length x + 78
   unfolding readingLines
-  reading-bound n at none = rw (read-nil t (hungry d (hash secret)) at) (end-bound n (after (reader at) (Ended 0)))
-  reading-bound n at (ends {b} {s} {e} {p} q) = rw (read-stop t (hungry d (hash secret)) at b s e p q) (let z = end-bound n (after (reader at) (Ended (outcomeOf e))) in omega arith)
+  reading-bound n at none = rw (read-nil t (hungry d (hash secret)) at) (end-bound n (ending (clean at)))
+  reading-bound n at (ends {b} {s} {e} {p} q) = rw (read-stop t (hungry d (hash secret)) at b s e p q) (let z = end-bound n (ending (broken e at (at + p))) in omega arith)
   reading-bound n at (more u {r} {a} tk v) = go a tk (reading-bound n (at + length u) v)
     where
       go : (a : Batch) → Takes t u a → length (readingLines d n (read t (at + length u) r)) ≤ 4 * length r + 78 → length (readingLines d n (read t at (u ++ r))) ≤ 4 * length (u ++ r) + 78

@@ -26,10 +26,10 @@ use Rattle.reader.specs.declared.Reader.{Reader}
 use Rattle.reader.specs.declared.Stepped.{Stepped}
 use Rattle.reader.specs.Batch.{Batch, batch, batchPlan}
 use Rattle.reader.specs.Found.{outcomeOf, found, foundAt}
-use Rattle.reader.specs.Reading.{strange, stateRefusal, stepRefusal, orRefused, answered, reader, after, with-state, stepped}
+use Rattle.reader.specs.Reading.{strange, stateRefusal, stepRefusal, orRefused, answered, reader, after, with-state, stepped, ending}
 use Rattle.reader.proofs.Bridge.{hungry}
 use Rattle.listing.specs.Listing.{batchLine, endLine, entryLine, entryLines, readingLines}
-use Rattle.listing.specs.Walk.{lineOf, nextOf, linesAt}
+use Rattle.listing.specs.Walk.{lineOf, nextOf, linesAt, linesFrom}
 use Rattle.listing.proofs.Body.{Body, Held, held}
 
 -- the lines of a body, as the code meets them
@@ -45,13 +45,9 @@ module _ (d : Dialect) (s : List ℕ) where
   abbrev t : Plan Stop Batch
   t = batchPlan d h
 
-  -- what is listed of the image from p on
-  unfoldable pub linesFrom : ℕ → List ℕ
-  linesFrom p = readingLines d (length s) (read t p (drop p s))
-
   -- a batch was accepted at p, and the state is r
   pub record Taken (p seqno count body next : ℕ) (r : Reader) : Type 0 where
-    pub lines : linesFrom p ≡ batchLine p seqno count ++ linesAt d s count body ++ linesFrom next
+    pub lines : linesFrom d s p ≡ batchLine p seqno count ++ linesAt d s count body ++ linesFrom d s next
     pub state : r ≡ reader next
     pub onward : p < next
     pub inside : next ≤ length s
@@ -59,7 +55,7 @@ module _ (d : Dialect) (s : List ℕ) where
 
   -- the reading ended, and the state is r
   pub record Over (p : ℕ) (r : Reader) : Type 0 where
-    pub lines : linesFrom p ≡ endLine (length s) r
+    pub lines : linesFrom d s p ≡ endLine (length s) r
     pub sound : stateRefusal (length s) r ≡ 0
 
   module _ (g : good d ≡ true) (l : length s ≤ limit) (p : ℕ) (k : p ≤ length s) where
@@ -87,7 +83,7 @@ module _ (d : Dialect) (s : List ℕ) where
     Comes (Refused n) = ⊥
 
     comes : Comes (foundAt d h s p)
-    unfolding Comes foundAt found after linesFrom readingLines
+    unfolding Comes foundAt found after ending linesFrom readingLines
     comes = go (leb (length s) p) refl (runAt t s p) refl
       where
         go : (b : Bool) → leb (length s) p ≡ b → (x : Res Stop Batch) → runAt t s p ≡ x → Comes (cond b (Ended 0) (found d (p + 13) x))

@@ -12,10 +12,8 @@ use Rattle.dialect.specs.Dialect.{good}
 use Rattle.refusal.specs.Refusal.{whenOf, firstOf}
 use Rattle.entry.specs.Entry.{Put, item, clear, Stop}
 use Rattle.reader.specs.declared.Reader.{Reader}
-use Rattle.reader.specs.declared.Answer.the-variants.{Ended}
 use Rattle.reader.specs.Batch.{Batch, batch, batchPlan}
-use Rattle.reader.specs.Found.{outcomeOf}
-use Rattle.reader.specs.Reading.{reader, after, keep}
+use Rattle.reader.specs.Reading.{keep, ending}
 use Rattle.text.specs.Text.{ascii, decimal, orDash}
 use Rattle.listing.specs.declared.Listed.{Listed}
 use Rattle.listing.specs.declared.Listed.the-variants.{Wrote, Refused}
@@ -53,8 +51,8 @@ module _ (d : Dialect) where
 
   -- of a reading of n bytes: each batch with its entries, and the end
   unfoldable pub readingLines : ℕ → Reading Stop Batch → List ℕ
-  readingLines n (clean p) = endLine n (after (reader p) (Ended 0))
-  readingLines n (broken e p q) = endLine n (after (reader p) (Ended (outcomeOf e)))
+  readingLines n (clean p) = endLine n (ending (clean p))
+  readingLines n (broken e p q) = endLine n (ending (broken e p q))
   readingLines n (next (batch count seqno ps) i j r) = batchLine i seqno count ++ entryLines ps ++ readingLines n r
 
   unfoldable pub listing : List ℕ → List ℕ

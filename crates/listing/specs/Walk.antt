@@ -1,10 +1,14 @@
--- The entries of a body as the code meets them: so many, from a position on.
+-- The listing as the code meets it: entries and batches from a position on.
 use Prim.Native.Nat.{ℕ, zero, suc}
 use mathlib.Core.List.{List, [], _++_}
+use lib.ListN.{length, drop}
+use Rattle.xxh3.specs.Xxh3.{secret, hash}
 use Rattle.plan.specs.Plan.{Res, ok, stop, runAt}
+use Rattle.plan.specs.Reading.{read}
 use Rattle.dialect.specs.declared.Dialect.{Dialect}
 use Rattle.entry.specs.Entry.{Entry, start, body, end, Stop, entry}
-use Rattle.listing.specs.Listing.{entryLine}
+use Rattle.reader.specs.Batch.{batchPlan}
+use Rattle.listing.specs.Listing.{entryLine, readingLines}
 
 -- the line of what was read: none but for an Item or a Clear
 unfoldable pub lineOf : Dialect → Res Stop Entry → List ℕ
@@ -20,6 +24,11 @@ nextOf at (ok (body p) j) = j
 nextOf at (ok (end c) j) = at
 nextOf at (stop e p) = at
 
+-- so many entries of s
 unfoldable pub linesAt : Dialect → List ℕ → ℕ → ℕ → List ℕ
 linesAt d s zero at = []
 linesAt d s (suc left) at = lineOf d (runAt (entry d) s at) ++ linesAt d s left (nextOf at (runAt (entry d) s at))
+
+-- all that is read of s
+unfoldable pub linesFrom : Dialect → List ℕ → ℕ → List ℕ
+linesFrom d s at = readingLines d (length s) (read (batchPlan d (hash secret)) at (drop at s))

@@ -6,16 +6,25 @@ ghost use mathlib.Core.List.{_++_};
 ghost use Prim.Native.Nat.{_+_, _≤_};
 ghost use lib.ListN.{length};
 ghost use lib.Dec.{ltb};
+ghost use Rattle.number.specs.Limit.{limit};
 ghost use Rattle.plan.specs.Plan.{runAt};
 ghost use Rattle.dialect.specs.Dialect.{good};
 ghost use Rattle.entry.specs.Entry.{item, entry};
+ghost use Rattle.reader.specs.Reading.{stateRefusal};
 ghost use Rattle.text.specs.Text.{ascii, decimal, orDash};
 ghost use Rattle.text.specs.Written.{Written};
-ghost use Rattle.listing.specs.Listing.{journalLine, batchLine, typeName, entryLine, roomFor};
-ghost use Rattle.listing.specs.Walk.{lineOf, nextOf, linesAt};
+ghost use Rattle.listing.specs.Listing.{journalLine, batchLine, endLine, typeName, entryLine, roomFor, listRefusal, listed};
+ghost use Rattle.listing.specs.Walk.{lineOf, nextOf, linesAt, linesFrom};
 use dialect::Dialect;
 use entry::Decoded;
 use entry::entry_at;
+use reader::Answer;
+use reader::Keep;
+use reader::Reader;
+use reader::kept;
+use reader::step;
+use refusal::first;
+use refusal::when;
 use text::put_bytes;
 use text::put_named;
 use text::put_word;
@@ -104,7 +113,74 @@ fn put_item(out: &mut [u8], d: Dialect, code: u8, keyspace: u64, key: &[u8], val
     pair_at + put_pair(&mut out[pair_at..], key, value)
 }
 
-// ---- the listing
+// ---- a batch
+
+// The entry at a position: its line, and where to go on. What is neither an Item nor a Clear has no line.
+fn put_entry(out: &mut [u8], image: &[u8], d: Dialect, at: usize) -> Printed
+    requires { ⌜ (good d ≡ true) × (at ≤ length (now image)) × (length (lineOf d (runAt (entry d) (now image) at)) ≤ length (now out)) ⌝ }
+    ensures { λ r. ⌜ Written (lineOf d (runAt (entry d) (now (image .entry)) at)) (now (out .entry)) (now (out .exit)) (r .put) × (r .next ≡ nextOf at (runAt (entry d) (now (image .entry)) at)) ⌝ }
+{
+    let e = entry_at(image, at, d);
+    let Decoded::Item {
+        value_type,
+        keyspace,
+        key_at,
+        key_len: _,
+        value_at,
+        value_len: _,
+        next,
+    } = e
+    else {
+        let Decoded::Clear { keyspace, next } = e else {
+            return Printed { put: 0, next: at };
+        };
+        let put = put_last(out, b"clear ", keyspace);
+        return Printed { put, next };
+    };
+    let put = put_item(
+        out,
+        d,
+        value_type,
+        keyspace,
+        &image[key_at..value_at],
+        &image[value_at..next],
+    );
+    Printed { put, next }
+}
+
+// So many entries, from a position on.
+fn put_entries(out: &mut [u8], image: &[u8], d: Dialect, count: u64, body: usize) -> usize
+    requires { ⌜ (good d ≡ true) × (body ≤ length (now image)) × (length (linesAt d (now image) count body) ≤ length (now out)) ⌝ }
+    ensures { λ r. ⌜ Written (linesAt d (now (image .entry)) count body) (now (out .entry)) (now (out .exit)) r ⌝ }
+{
+    let mut put = 0;
+    let mut at = body;
+    let mut left = count;
+    while 0 < left {
+        let printed = put_entry(&mut out[put..], image, d, at);
+        put += printed.put;
+        at = printed.next;
+        left -= 1;
+    }
+    put
+}
+
+// An accepted batch: its own line and those of its entries.
+fn put_batch(
+    out: &mut [u8],
+    image: &[u8],
+    d: Dialect,
+    position: usize,
+    seqno: u64,
+    count: u64,
+    body: usize,
+) -> usize
+    requires { ⌜ (good d ≡ true) × (body ≤ length (now image)) × (length (batchLine position seqno count) + length (linesAt d (now image) count body) ≤ length (now out)) ⌝ }
+    ensures { λ r. ⌜ Written (batchLine position seqno count ++ linesAt d (now (image .entry)) count body) (now (out .entry)) (now (out .exit)) r ⌝ }
+{
+    let at = put_accepted(out, position, seqno, count);
+    at + put_entries(&mut out[at..], image, d, count, body)
+}
 
 // Whether there are fewer than 4 * n + 128 bytes of room: no product is made, so none wraps.
 fn is_tight(n: usize, room: usize) -> bool
@@ -115,3 +191,4 @@ fn is_tight(n: usize, room: usize) -> bool
     }
     (room - 128) / 4 < n
 }
+
