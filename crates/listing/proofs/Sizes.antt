@@ -21,7 +21,7 @@ use Rattle.reader.specs.Reading.{keep, ending}
 use Rattle.reader.proofs.Bridge.{hungry}
 use Rattle.text.specs.Text.{ascii, decimal, orDash}
 use Rattle.text.specs.Sizes.{length-decimal, length-dash}
-use Rattle.listing.specs.Listing.{journalLine, batchLine, endLine, typeName, entryLine, entryLines, readingLines, listing, roomFor}
+use Rattle.listing.specs.Listing.{journalLine, batchLine, endLine, stateLine, typeName, entryLine, entryLines, readingLines, listing, roomFor}
 use Rattle.listing.proofs.Body.{Body, Held, held}
 
 -- ---- lines, by their numbers and bytes
@@ -34,8 +34,8 @@ pub batch-size : (position seqno count : ℕ) → length (batchLine position seq
 unfolding batchLine
 batch-size position seqno count = simp length-append (omega arith)
 
-pub end-size : (n : ℕ) (r : Reader) → length (endLine n r) ≡ 18 + length (decimal (r .outcome)) + length (decimal (r .position)) + length (decimal (keep n r))
-unfolding endLine
+pub end-size : (n : ℕ) (r : Reader) → length (stateLine n r) ≡ 18 + length (decimal (r .outcome)) + length (decimal (r .position)) + length (decimal (keep n r))
+unfolding stateLine endLine
 end-size n r = simp length-append (omega arith)
 
 module _ (d : Dialect) where
@@ -80,7 +80,7 @@ module _ (d : Dialect) where
         let r = entries-bound ps (b .0) e (w .1) (b .2) in
         rw (length-append (entryLine d p) (entryLines d ps)) (omega (arith, w .0))
 
-  end-bound : (n : ℕ) (r : Reader) → length (endLine n r) ≤ 78
+  end-bound : (n : ℕ) (r : Reader) → length (stateLine n r) ≤ 78
   end-bound n r = omega (arith, end-size n r, length-decimal (r .outcome), length-decimal (r .position), length-decimal (keep n r))
 
   abbrev t : Plan Stop Batch

@@ -28,7 +28,7 @@ use Rattle.reader.specs.Batch.{Batch, batch, batchPlan}
 use Rattle.reader.specs.Found.{outcomeOf, found, foundAt}
 use Rattle.reader.specs.Reading.{strange, stateRefusal, stepRefusal, orRefused, answered, reader, after, with-state, stepped, ending}
 use Rattle.reader.proofs.Bridge.{hungry}
-use Rattle.listing.specs.Listing.{batchLine, endLine, entryLine, entryLines, readingLines}
+use Rattle.listing.specs.Listing.{batchLine, stateLine, entryLine, entryLines, readingLines}
 use Rattle.listing.specs.Walk.{lineOf, nextOf, linesAt, linesFrom}
 use Rattle.listing.proofs.Body.{Body, Held, held}
 
@@ -55,7 +55,7 @@ module _ (d : Dialect) (s : List ℕ) where
 
   -- the reading ended, and the state is r
   pub record Over (p : ℕ) (r : Reader) : Type 0 where
-    pub lines : linesFrom d s p ≡ endLine (length s) r
+    pub lines : linesFrom d s p ≡ stateLine (length s) r
     pub sound : stateRefusal (length s) r ≡ 0
 
   module _ (g : good d ≡ true) (l : length s ≤ limit) (p : ℕ) (k : p ≤ length s) where

@@ -28,9 +28,12 @@ journalLine n = ascii "journal " ++ decimal n ++ ascii " bytes\n"
 unfoldable pub batchLine : ℕ → ℕ → ℕ → List ℕ
 batchLine position seqno count = ascii "@" ++ decimal position ++ ascii " seq " ++ decimal seqno ++ ascii " entries " ++ decimal count ++ ascii "\n"
 
--- the end of a reading of n bytes that stands so
-unfoldable pub endLine : ℕ → Reader → List ℕ
-endLine n r = ascii "end " ++ decimal (r .outcome) ++ ascii " valid " ++ decimal (r .position) ++ ascii " kept " ++ decimal (keep n r) ++ ascii "\n"
+unfoldable pub endLine : ℕ → ℕ → ℕ → List ℕ
+endLine outcome valid kept = ascii "end " ++ decimal outcome ++ ascii " valid " ++ decimal valid ++ ascii " kept " ++ decimal kept ++ ascii "\n"
+
+-- the end of a reading of n bytes, where it stands so
+unfoldable pub stateLine : ℕ → Reader → List ℕ
+stateLine n r = endLine (r .outcome) (r .position) (keep n r)
 
 module _ (d : Dialect) where
   -- of an Item's type, by its code
@@ -51,8 +54,8 @@ module _ (d : Dialect) where
 
   -- of a reading of n bytes: each batch with its entries, and the end
   unfoldable pub readingLines : ℕ → Reading Stop Batch → List ℕ
-  readingLines n (clean p) = endLine n (ending (clean p))
-  readingLines n (broken e p q) = endLine n (ending (broken e p q))
+  readingLines n (clean p) = stateLine n (ending (clean p))
+  readingLines n (broken e p q) = stateLine n (ending (broken e p q))
   readingLines n (next (batch count seqno ps) i j r) = batchLine i seqno count ++ entryLines ps ++ readingLines n r
 
   unfoldable pub listing : List ℕ → List ℕ

@@ -13,7 +13,7 @@ ghost use Rattle.entry.specs.Entry.{item, entry};
 ghost use Rattle.reader.specs.Reading.{stateRefusal};
 ghost use Rattle.text.specs.Text.{ascii, decimal, orDash};
 ghost use Rattle.text.specs.Written.{Written};
-ghost use Rattle.listing.specs.Listing.{journalLine, batchLine, endLine, typeName, entryLine, roomFor, listRefusal, listed};
+ghost use Rattle.listing.specs.Listing.{journalLine, batchLine, stateLine, typeName, entryLine, roomFor, listRefusal, listed};
 ghost use Rattle.listing.specs.Walk.{lineOf, nextOf, linesAt, linesFrom};
 use dialect::Dialect;
 use entry::Decoded;
@@ -60,13 +60,22 @@ fn put_journal(out: &mut [u8], n: usize) -> usize
     at + put_word(&mut out[at..], b" bytes\n")
 }
 
-fn put_accepted(out: &mut [u8], position: usize, seqno: u64, count: u64) -> usize
-    requires { ⌜ length (batchLine position seqno count) ≤ length (now out) ⌝ }
-    ensures { λ r. ⌜ Written (batchLine position seqno count) (now (out .entry)) (now (out .exit)) r ⌝ }
+// A line of three numbers, each behind its word.
+fn put_three(
+    out: &mut [u8],
+    first: &[u8],
+    x: u64,
+    second: &[u8],
+    y: u64,
+    third: &[u8],
+    z: u64,
+) -> usize
+    requires { ⌜ length (now first) + length (decimal x) + (length (now second) + length (decimal y)) + (length (now third) + length (decimal z) + 1) ≤ length (now out) ⌝ }
+    ensures { λ r. ⌜ Written (now (first .entry) ++ decimal x ++ now (second .entry) ++ decimal y ++ now (third .entry) ++ decimal z ++ ascii "\n") (now (out .entry)) (now (out .exit)) r ⌝ }
 {
-    let seq_at = put_named(out, b"@", position as u64);
-    let entries_at = seq_at + put_named(&mut out[seq_at..], b" seq ", seqno);
-    entries_at + put_last(&mut out[entries_at..], b" entries ", count)
+    let second_at = put_named(out, first, x);
+    let third_at = second_at + put_named(&mut out[second_at..], second, y);
+    third_at + put_last(&mut out[third_at..], third, z)
 }
 
 // The type of an Item, between two spaces.
@@ -178,8 +187,40 @@ fn put_batch(
     requires { ⌜ (good d ≡ true) × (body ≤ length (now image)) × (length (batchLine position seqno count) + length (linesAt d (now image) count body) ≤ length (now out)) ⌝ }
     ensures { λ r. ⌜ Written (batchLine position seqno count ++ linesAt d (now (image .entry)) count body) (now (out .entry)) (now (out .exit)) r ⌝ }
 {
-    let at = put_accepted(out, position, seqno, count);
+    let at = put_three(
+        out,
+        b"@",
+        position as u64,
+        b" seq ",
+        seqno,
+        b" entries ",
+        count,
+    );
     at + put_entries(&mut out[at..], image, d, count, body)
+}
+
+// ---- the listing
+
+// The end of a reading of n bytes. Assumes a state that is in range for them.
+fn put_end(out: &mut [u8], n: usize, state: Reader) -> usize
+    requires { ⌜ (stateRefusal n state ≡ 0) × (length (stateLine n state) ≤ length (now out)) ⌝ }
+    ensures { λ r. ⌜ Written (stateLine n state) (now (out .entry)) (now (out .exit)) r ⌝ }
+{
+    let outcome = state.outcome;
+    let valid = state.position;
+    let keep = kept(n, state);
+    let Keep::Bytes(bytes) = keep else {
+        return 0;
+    };
+    put_three(
+        out,
+        b"end ",
+        outcome as u64,
+        b" valid ",
+        valid as u64,
+        b" kept ",
+        bytes as u64,
+    )
 }
 
 // Whether there are fewer than 4 * n + 128 bytes of room: no product is made, so none wraps.
@@ -190,5 +231,14 @@ fn is_tight(n: usize, room: usize) -> bool
         return true;
     }
     (room - 128) / 4 < n
+}
+
+fn list_refusal(d: Dialect, n: usize, room: usize) -> u32
+    ensures { λ r. ⌜ r ≡ listRefusal d n room ⌝ }
+{
+    first(
+        when(!d.is_good(), 20),
+        first(when(65_536 < n, 21), when(is_tight(n, room), 27)),
+    )
 }
 
