@@ -2,7 +2,7 @@
 use Prim.Native.Nat.{ℕ, zero, suc, _+_, _-_, _≤_, _<_}
 use mathlib.Core.Path.{_≡_, refl, sym, ap, _∙_}
 use mathlib.Core.Bool.{Bool, true, false, cond}
-use mathlib.Core.List.{List, [], _∷_, _++_}
+use mathlib.Core.List.{List, [], _∷_, _++_, append-nil}
 use native.Mathlib.Omega.{arith}
 use types.Run.{OneOf, miss}
 use denote.Enum.Declared.{tagOf}
@@ -28,6 +28,7 @@ use Rattle.reader.specs.Batch.{Batch, batch, batchPlan}
 use Rattle.reader.specs.Found.{outcomeOf, found, foundAt}
 use Rattle.reader.specs.Reading.{strange, stateRefusal, stepRefusal, orRefused, answered, reader, after, with-state, stepped, ending}
 use Rattle.reader.proofs.Bridge.{hungry}
+use Rattle.text.specs.Written.{Begins}
 use Rattle.listing.specs.Listing.{batchLine, stateLine, entryLine, entryLines, readingLines}
 use Rattle.listing.specs.Walk.{lineOf, nextOf, linesAt, linesFrom}
 use Rattle.listing.proofs.Body.{Body, Held, held}
@@ -38,6 +39,9 @@ unfolding Body linesAt lineOf nextOf entryLines
 lines-of d s [] at e b = refl
 lines-of d s (p ∷ ps) at e b = rw (b .1) (ap (λ (l : List ℕ). entryLine d p ++ l) (lines-of d s ps (b .0) e (b .2)))
 
+last : {text line : List ℕ} → text ≡ line → Begins text line []
+last {text} {line} e = record { split = e ∙ sym (append-nil line) }
+
 module _ (d : Dialect) (s : List ℕ) where
   abbrev h : List ℕ → ℕ
   h = hash secret
@@ -46,16 +50,16 @@ module _ (d : Dialect) (s : List ℕ) where
   t = batchPlan d h
 
   -- a batch was accepted at p, and the state is r
-  pub record Taken (p seqno count body next : ℕ) (r : Reader) : Type 0 where
-    pub lines : linesFrom d s p ≡ batchLine p seqno count ++ linesAt d s count body ++ linesFrom d s next
-    pub state : r ≡ reader next
-    pub onward : p < next
-    pub inside : next ≤ length s
+  pub record Taken (p seqno count body : ℕ) (r : Reader) : Type 0 where
+    pub lines : Begins (linesFrom d s p) (batchLine p seqno count ++ linesAt d s count body) (linesFrom d s (r .position))
+    pub fresh : r ≡ reader (r .position)
+    pub onward : p < r .position
+    pub inside : r .position ≤ length s
     pub begins : body ≤ length s
 
   -- the reading ended, and the state is r
   pub record Over (p : ℕ) (r : Reader) : Type 0 where
-    pub lines : linesFrom d s p ≡ stateLine (length s) r
+    pub lines : Begins (linesFrom d s p) (stateLine (length s) r) []
     pub sound : stateRefusal (length s) r ≡ 0
 
   module _ (g : good d ≡ true) (l : length s ≤ limit) (p : ℕ) (k : p ≤ length s) where
@@ -78,7 +82,7 @@ module _ (d : Dialect) (s : List ℕ) where
 
     -- what a step comes to
     unfoldable Comes : Answer → Type 0
-    Comes (Accepted seqno count body end next) = Taken p seqno count body next (after (reader p) (Accepted seqno count body end next))
+    Comes (Accepted seqno count body end next) = Taken p seqno count body (after (reader p) (Accepted seqno count body end next))
     Comes (Ended o) = Over p (after (reader p) (Ended o))
     Comes (Refused n) = ⊥
 
@@ -87,14 +91,14 @@ module _ (d : Dialect) (s : List ℕ) where
     comes = go (leb (length s) p) refl (runAt t s p) refl
       where
         go : (b : Bool) → leb (length s) p ≡ b → (x : Res Stop Batch) → runAt t s p ≡ x → Comes (cond b (Ended 0) (found d (p + 13) x))
-        go true eb x ex = record { lines = ap (readingLines d (length s)) (at-end t (hungry d h) s p (leb-true (length s) p eb)); sound = sound-end 0 (omega arith) }
-        go false eb (stop e q) ex = record { lines = ap (readingLines d (length s)) (turn-stop t (hungry d h) s p (leb-false (length s) p eb) e q ex); sound = sound-end (outcomeOf e) (small e) }
+        go true eb x ex = record { lines = last (ap (readingLines d (length s)) (at-end t (hungry d h) s p (leb-true (length s) p eb))); sound = sound-end 0 (omega arith) }
+        go false eb (stop e q) ex = record { lines = last (ap (readingLines d (length s)) (turn-stop t (hungry d h) s p (leb-false (length s) p eb) e q ex)); sound = sound-end (outcomeOf e) (small e) }
         go false eb (ok (batch count seqno ps) j) ex =
             let w = held d s h p count seqno ps j k ex in
             let b : linesAt d s count (p + 13) ≡ entryLines d ps = rw (← w .counted) (lines-of d s ps (p + 13) (w .over) (w .entries)) in
             record {
-              lines = ap (readingLines d (length s)) (turn-batch t (hungry d h) s p (batch count seqno ps) j ex) ∙ ap (λ (y : List ℕ). batchLine p seqno count ++ y ++ readingLines d (length s) (read t j (drop j s))) (sym b);
-              state = refl;
+              lines = record { split = ap (readingLines d (length s)) (turn-batch t (hungry d h) s p (batch count seqno ps) j ex) ∙ ap (λ (y : List ℕ). batchLine p seqno count ++ y ++ readingLines d (length s) (read t j (drop j s))) (sym b) };
+              fresh = refl;
               onward = further t (hungry d h) s p (batch count seqno ps) j ex;
               inside = within t s p (batch count seqno ps) j k ex;
               begins = w .within;
@@ -106,16 +110,19 @@ module _ (d : Dialect) (s : List ℕ) where
     ended (Ended x) w o = w
     ended (Refused n) w o = absurd w
 
-    pub taken : (r : Stepped) (seqno count body end next : ℕ) → r ≡ stepped d h s (reader p) → r .answer ≡ Accepted seqno count body end next → Taken p seqno count body next (r .reader)
-    unfolding Comes
-    taken r seqno count body end next e a =
-        let q : r ≡ with-state (reader p) (foundAt d h s p) = e ∙ step-at in
-        let f : foundAt d h s p ≡ Accepted seqno count body end next = sym (ap (λ (x : Stepped). x .answer) q) ∙ a in
-        let m : r .reader ≡ after (reader p) (Accepted seqno count body end next) = ap (λ (x : Stepped). x .reader) q ∙ ap (after (reader p)) f in
-        rw m (rw f at comes)
+  -- the same of a state that is not ended, and of what the code calls the step's answer
+  module _ (g : good d ≡ true) (l : length s ≤ limit) (st : Reader) (fresh : st ≡ reader (st .position)) (k : st .position ≤ length s) (r : Stepped) (e : r ≡ stepped d h s st) where
+    step-is : r ≡ with-state (reader (st .position)) (foundAt d h s (st .position))
+    step-is = e ∙ ap (stepped d h s) fresh ∙ step-at g l (st .position) k
 
-    pub over : (r : Stepped) → r ≡ stepped d h s (reader p) → OneOf (1 ∷ 2 ∷ []) (tagOf the-type (r .answer)) → Over p (r .reader)
-    over r e o =
-        let q : r ≡ with-state (reader p) (foundAt d h s p) = e ∙ step-at in
-        let m : r .reader ≡ after (reader p) (foundAt d h s p) = ap (λ (x : Stepped). x .reader) q in
-        rw m (ended (foundAt d h s p) comes (rw q at o))
+    pub taken : {seqno count body end next : ℕ} → r .answer ≡ Accepted seqno count body end next → Taken (st .position) seqno count body (r .reader)
+    unfolding Comes
+    taken {seqno} {count} {body} {end} {next} a =
+        let f : foundAt d h s (st .position) ≡ Accepted seqno count body end next = sym (ap (λ (x : Stepped). x .answer) step-is) ∙ a in
+        let m : r .reader ≡ after (reader (st .position)) (Accepted seqno count body end next) = ap (λ (x : Stepped). x .reader) step-is ∙ ap (after (reader (st .position))) f in
+        rw m (rw f at (comes g l (st .position) k))
+
+    pub over : OneOf (1 ∷ 2 ∷ []) (tagOf the-type (r .answer)) → Over (st .position) (r .reader)
+    over o =
+        let m : r .reader ≡ after (reader (st .position)) (foundAt d h s (st .position)) = ap (λ (x : Stepped). x .reader) step-is in
+        rw m (ended g l (st .position) k (foundAt d h s (st .position)) (comes g l (st .position) k) (rw step-is at o))

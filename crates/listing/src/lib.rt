@@ -223,6 +223,33 @@ fn put_end(out: &mut [u8], n: usize, state: Reader) -> usize
     )
 }
 
+// Step after step from position 0: the lines of each accepted batch, and the end.
+fn put_reading(out: &mut [u8], image: &[u8], d: Dialect) -> usize
+    requires { ⌜ (good d ≡ true) × (length (now image) ≤ limit) × (length (linesFrom d (now image) 0) ≤ length (now out)) ⌝ }
+    ensures { λ r. ⌜ Written (linesFrom d (now (image .entry)) 0) (now (out .entry)) (now (out .exit)) r ⌝ }
+{
+    let mut put = 0;
+    let mut state = Reader::new();
+    loop {
+        let position = state.position;
+        let stepped = step(image, state, d);
+        let answer = stepped.answer;
+        let next = stepped.reader;
+        let Answer::Accepted {
+            seqno,
+            count,
+            body,
+            end: _,
+            next: _,
+        } = answer
+        else {
+            return put + put_end(&mut out[put..], image.len(), next);
+        };
+        put += put_batch(&mut out[put..], image, d, position, seqno, count, body);
+        state = next;
+    }
+}
+
 // Whether there are fewer than 4 * n + 128 bytes of room: no product is made, so none wraps.
 fn is_tight(n: usize, room: usize) -> bool
     ensures { λ r. ⌜ r ≡ ltb room (roomFor n) ⌝ }
@@ -242,3 +269,15 @@ fn list_refusal(d: Dialect, n: usize, room: usize) -> u32
     )
 }
 
+// The listing of a journal over the front of out, and how many bytes it has; or 20, 21 for a journal above 65,536 bytes, 27 for
+// less room than 4 bytes to each byte of the journal and 128, with out as it was.
+pub fn list(image: &[u8], d: Dialect, out: &mut [u8]) -> Listed
+    ensures { λ r. ⌜ (r ≡ listed d (now (image .entry)) (now (out .entry)) .answer) × (now (out .exit) ≡ listed d (now (image .entry)) (now (out .entry)) .buffer) ⌝ }
+{
+    let refused = list_refusal(d, image.len(), out.len());
+    if refused != 0 {
+        return Listed::Refused(refused);
+    }
+    let at = put_journal(out, image.len());
+    Listed::Wrote(at + put_reading(&mut out[at..], image, d))
+}
