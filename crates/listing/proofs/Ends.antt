@@ -1,11 +1,9 @@
 -- The end of a reading, and what the public call makes of a refusal. Assumes nothing.
-use Prim.Native.Nat.{ℕ, zero, suc, _+_, _≤_}
-use mathlib.Core.Path.{_≡_, refl, sym, ap, _∙_}
-use mathlib.Core.List.{List, _++_}
+use Prim.Native.Nat.{ℕ}
+use mathlib.Core.Path.{_≡_, _∙_}
+use mathlib.Core.List.{_++_}
 use native.Mathlib.Omega.{arith}
-use lib.ListN.{length}
 use Rattle.reader.specs.declared.Reader.{Reader}
-use Rattle.reader.specs.declared.Keep.{Keep}
 use Rattle.reader.specs.declared.Keep.the-variants as keeps
 use Rattle.reader.specs.Reading.{stateRefusal, orKept, keep, keptOf}
 use Rattle.text.specs.Text.{ascii, decimal}

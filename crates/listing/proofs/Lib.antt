@@ -1,4 +1,5 @@
 pub mod Body
+pub mod Call
 pub mod Ends
 pub mod Entries
 pub mod Names

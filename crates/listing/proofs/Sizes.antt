@@ -1,6 +1,6 @@
 -- A listing is no longer than four times its image and 128 bytes. Assumes nothing.
-use Prim.Native.Nat.{ℕ, zero, suc, _+_, _*_, _≤_, _<_}
-use mathlib.Core.Path.{_≡_, refl, sym, ap, _∙_}
+use Prim.Native.Nat.{ℕ, _+_, _*_, _≤_}
+use mathlib.Core.Path.{_≡_, sym, ap, _∙_}
 use mathlib.Core.Bool.{Bool, true, false, cond}
 use mathlib.Core.List.{List, [], _∷_, _++_, append-nil}
 use native.Mathlib.Omega.{arith}
@@ -8,11 +8,10 @@ use native.Mathlib.Nat.{zero-add}
 use lib.ListN.{length, length-append}
 use lib.Dec.{eqb}
 use Rattle.xxh3.specs.Xxh3.{secret, hash}
-use Rattle.plan.specs.Plan.{Plan, Res, ok, stop, later, run, runAt, Takes}
-use Rattle.plan.specs.Reading.{Reading, clean, broken, next, read, Parsed, none, ends, more, parsed, read-nil, read-stop, read-next}
+use Rattle.plan.specs.Plan.{Plan, ok, later, run, runAt, Takes}
+use Rattle.plan.specs.Reading.{clean, broken, read, Parsed, none, ends, more, parsed, read-nil, read-stop, read-next}
 use Rattle.plan.specs.Place.{at-run}
 use Rattle.dialect.specs.declared.Dialect.{Dialect}
-use Rattle.dialect.specs.Dialect.{trailer}
 use Rattle.entry.specs.Entry.{Put, item, clear, body, Stop, entry}
 use Rattle.entry.proofs.Exact.{ItemAt, exact-of}
 use Rattle.reader.specs.declared.Reader.{Reader}
@@ -22,7 +21,7 @@ use Rattle.reader.proofs.Bridge.{hungry}
 use Rattle.text.specs.Text.{ascii, decimal, orDash}
 use Rattle.text.specs.Sizes.{length-decimal, length-dash}
 use Rattle.listing.specs.Listing.{journalLine, batchLine, endLine, stateLine, typeName, entryLine, entryLines, readingLines, listing, roomFor}
-use Rattle.listing.proofs.Body.{Body, Held, held}
+use Rattle.listing.proofs.Body.{Body, held}
 
 -- ---- lines, by their numbers and bytes
 

@@ -1,5 +1,5 @@
 -- What a step of the reader gives to the listing. Assumes nothing.
-use Prim.Native.Nat.{ℕ, zero, suc, _+_, _-_, _≤_, _<_}
+use Prim.Native.Nat.{ℕ, _+_, _≤_, _<_}
 use mathlib.Core.Path.{_≡_, refl, sym, ap, _∙_}
 use mathlib.Core.Bool.{Bool, true, false, cond}
 use mathlib.Core.List.{List, [], _∷_, _++_, append-nil}
@@ -12,13 +12,13 @@ use borrow.Author.Tests.{le-ltb, leb-true, leb-false}
 use Rattle.number.specs.Limit.{limit}
 use Rattle.xxh3.specs.Xxh3.{secret, hash}
 use Rattle.plan.specs.Plan.{Plan, Res, ok, stop, runAt}
-use Rattle.plan.specs.Reading.{Reading, read}
+use Rattle.plan.specs.Reading.{read}
 use Rattle.plan.specs.Place.{at-end, turn-batch, turn-stop, further}
 use Rattle.plan.specs.Ends.{within}
 use Rattle.dialect.specs.declared.Dialect.{Dialect}
-use Rattle.dialect.specs.Dialect.{good, trailer}
+use Rattle.dialect.specs.Dialect.{good}
 use Rattle.refusal.specs.Refusal.{whenOf, firstOf}
-use Rattle.entry.specs.Entry.{Put, Stop, fault, void, misplaced, insufficient, too-many, mismatch, entry}
+use Rattle.entry.specs.Entry.{Put, Stop, fault, void, misplaced, insufficient, too-many, mismatch}
 use Rattle.reader.proofs.Answer.{the-type}
 use Rattle.reader.specs.declared.Answer.{Answer}
 use Rattle.reader.specs.declared.Answer.the-variants.{Accepted, Ended, Refused}
@@ -31,7 +31,7 @@ use Rattle.reader.proofs.Bridge.{hungry}
 use Rattle.text.specs.Written.{Begins}
 use Rattle.listing.specs.Listing.{batchLine, stateLine, entryLine, entryLines, readingLines}
 use Rattle.listing.specs.Walk.{lineOf, nextOf, linesAt, linesFrom}
-use Rattle.listing.proofs.Body.{Body, Held, held}
+use Rattle.listing.proofs.Body.{Body, held}
 
 -- the lines of a body, as the code meets them
 lines-of : (d : Dialect) (s : List ℕ) (ps : List Put) (at e : ℕ) → Body d s at ps e → linesAt d s (length ps) at ≡ entryLines d ps

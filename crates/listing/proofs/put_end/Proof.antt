@@ -1,4 +1,4 @@
-use mathlib.Core.Path.{sym, _∙_, ap}
+use mathlib.Core.Path.{sym, _∙_}
 use native.Mathlib.Omega.{arith}
 use Rattle.listing.proofs.Sizes.{end-size}
 use Rattle.listing.proofs.Ends.{not-refused, bytes-are, end-pieces}

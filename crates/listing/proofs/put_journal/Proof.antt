@@ -1,8 +1,7 @@
-use Rattle.text.specs.Written.{room}
+use Rattle.text.specs.Written.{room, then}
 use native.Mathlib.Omega.{arith}
 use Rattle.listing.proofs.Sizes.{journal-size}
 use Rattle.listing.specs.Listing.{journalLine}
-use Rattle.text.specs.Written.{then}
 use borrow.Author.Needs.{needs}
 use Rattle.listing.proofs.put_journal.Statement.{statement}
 use Rattle.listing.proofs.put_journal.Tie as tie

@@ -1,7 +1,6 @@
-use Rattle.text.specs.Written.{room}
+use Rattle.text.specs.Written.{room, then}
 use native.Mathlib.Omega.{arith}
 use lib.ListN.{length-append}
-use Rattle.text.specs.Written.{then}
 use borrow.Author.Needs.{needs}
 use Rattle.listing.proofs.put_last.Statement.{statement}
 use Rattle.listing.proofs.put_last.Tie as tie

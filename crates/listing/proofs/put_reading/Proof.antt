@@ -2,11 +2,10 @@ use lib.ListN.{length, length-append}
 use Rattle.listing.proofs.Steps.{taken, over}
 use Rattle.listing.specs.Walk.{linesFrom}
 use Rattle.text.specs.Written.{Partly, nothing-yet, most, all-put, put-fits, put-still, next-room, next-put}
-use Rattle.reader.specs.Reading.{reader, stepped}
-use Rattle.xxh3.specs.Xxh3.{secret, hash}
+use Rattle.reader.specs.Reading.{reader}
 use borrow.Author.Needs.{needs}
 use native.Mathlib.Omega.{arith}
-use mathlib.Core.Path.{_≡_, refl, sym, ap, _∙_}
+use mathlib.Core.Path.{_≡_, refl}
 use Prim.Native.Nat.{_≤_, _-_}
 use Rattle.listing.proofs.put_reading.Statement.{statement}
 use Rattle.listing.proofs.put_reading.Tie as tie
