@@ -37,9 +37,6 @@ spaced e = ap (λ (l : List ℕ). ascii " " ++ l ++ ascii " ") e
 
 -- ---- lines, piece by piece as the code puts them
 
-pub three-pieces : (a b c d e f g : List ℕ) → (a ++ b) ++ (c ++ d) ++ (e ++ f ++ g) ≡ a ++ b ++ c ++ d ++ e ++ f ++ g
-three-pieces a b c d e f g = simp append-assoc
-
 pub batch-pieces : (position seqno count : ℕ) → ascii "@" ++ decimal position ++ ascii " seq " ++ decimal seqno ++ ascii " entries " ++ decimal count ++ ascii "\n" ≡ batchLine position seqno count
 unfolding batchLine
 batch-pieces position seqno count = refl

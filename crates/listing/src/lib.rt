@@ -11,7 +11,7 @@ ghost use Rattle.plan.specs.Plan.{runAt};
 ghost use Rattle.dialect.specs.Dialect.{good};
 ghost use Rattle.entry.specs.Entry.{item, entry};
 ghost use Rattle.reader.specs.Reading.{stateRefusal};
-ghost use Rattle.text.specs.Text.{ascii, decimal, orDash};
+ghost use Rattle.text.specs.Text.{ascii};
 ghost use Rattle.text.specs.Written.{Written};
 ghost use Rattle.listing.specs.Listing.{journalLine, batchLine, stateLine, typeName, entryLine, roomFor, listRefusal, listed};
 ghost use Rattle.listing.specs.Walk.{lineOf, nextOf, linesAt, linesFrom};
@@ -25,8 +25,10 @@ use reader::kept;
 use reader::step;
 use refusal::first;
 use refusal::when;
-use text::put_bytes;
+use text::put_last;
 use text::put_named;
+use text::put_pair;
+use text::put_three;
 use text::put_word;
 
 // How many bytes were written, or 20, 21 or 27.
@@ -43,39 +45,12 @@ pub struct Printed {
 
 // ---- lines: each assumes room for its bytes
 
-// A word and a number at the end of a line.
-fn put_last(out: &mut [u8], word: &[u8], n: u64) -> usize
-    requires { ⌜ length (now word) + length (decimal n) + 1 ≤ length (now out) ⌝ }
-    ensures { λ r. ⌜ Written (now (word .entry) ++ decimal n ++ ascii "\n") (now (out .entry)) (now (out .exit)) r ⌝ }
-{
-    let at = put_named(out, word, n);
-    at + put_word(&mut out[at..], b"\n")
-}
-
 fn put_journal(out: &mut [u8], n: usize) -> usize
     requires { ⌜ length (journalLine n) ≤ length (now out) ⌝ }
     ensures { λ r. ⌜ Written (journalLine n) (now (out .entry)) (now (out .exit)) r ⌝ }
 {
     let at = put_named(out, b"journal ", n as u64);
     at + put_word(&mut out[at..], b" bytes\n")
-}
-
-// A line of three numbers, each behind its word.
-fn put_three(
-    out: &mut [u8],
-    first: &[u8],
-    x: u64,
-    second: &[u8],
-    y: u64,
-    third: &[u8],
-    z: u64,
-) -> usize
-    requires { ⌜ length (now first) + length (decimal x) + (length (now second) + length (decimal y)) + (length (now third) + length (decimal z) + 1) ≤ length (now out) ⌝ }
-    ensures { λ r. ⌜ Written (now (first .entry) ++ decimal x ++ now (second .entry) ++ decimal y ++ now (third .entry) ++ decimal z ++ ascii "\n") (now (out .entry)) (now (out .exit)) r ⌝ }
-{
-    let second_at = put_named(out, first, x);
-    let third_at = second_at + put_named(&mut out[second_at..], second, y);
-    third_at + put_last(&mut out[third_at..], third, z)
 }
 
 // The type of an Item, between two spaces.
@@ -93,24 +68,6 @@ fn put_type(out: &mut [u8], d: Dialect, code: u8) -> usize
         return put_word(out, b" W ");
     }
     put_word(out, b" Vb ")
-}
-
-// Bytes, and what stands behind them.
-fn put_part(out: &mut [u8], s: &[u8], behind: &[u8]) -> usize
-    requires { ⌜ length (orDash (now s)) + length (now behind) ≤ length (now out) ⌝ }
-    ensures { λ r. ⌜ Written (orDash (now (s .entry)) ++ now (behind .entry)) (now (out .entry)) (now (out .exit)) r ⌝ }
-{
-    let at = put_bytes(out, s);
-    at + put_word(&mut out[at..], behind)
-}
-
-// The key and the value of an Item, at the end of its line.
-fn put_pair(out: &mut [u8], key: &[u8], value: &[u8]) -> usize
-    requires { ⌜ length (orDash (now key)) + length (orDash (now value)) + 2 ≤ length (now out) ⌝ }
-    ensures { λ r. ⌜ Written (orDash (now (key .entry)) ++ ascii " " ++ (orDash (now (value .entry)) ++ ascii "\n")) (now (out .entry)) (now (out .exit)) r ⌝ }
-{
-    let at = put_part(out, key, b" ");
-    at + put_part(&mut out[at..], value, b"\n")
 }
 
 fn put_item(out: &mut [u8], d: Dialect, code: u8, keyspace: u64, key: &[u8], value: &[u8]) -> usize

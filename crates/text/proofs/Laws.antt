@@ -89,3 +89,7 @@ pub no-dash : (s : List ℕ) → (length s ≡ 0 → ⊥) → hexadecimal s ≡ 
 unfolding orDash
 no-dash [] h = absurd (h refl)
 no-dash (b ∷ s) h = refl
+
+-- ---- a line, piece by piece as the code puts it
+pub three-pieces : (a b c d e f g : List ℕ) → (a ++ b) ++ (c ++ d) ++ (e ++ f ++ g) ≡ a ++ b ++ c ++ d ++ e ++ f ++ g
+three-pieces a b c d e f g = simp append-assoc

@@ -4,7 +4,7 @@ ghost use mathlib.Core.Path.{_≡_};
 ghost use mathlib.Core.List.{_++_};
 ghost use Prim.Native.Nat.{_+_, _≤_, _<_};
 ghost use lib.ListN.{length, drop};
-ghost use Rattle.text.specs.Text.{digitOf, decimal, hexadecimal, orDash};
+ghost use Rattle.text.specs.Text.{ascii, digitOf, decimal, hexadecimal, orDash};
 ghost use Rattle.text.specs.Written.{Written};
 use number::copy_front;
 
@@ -91,4 +91,51 @@ pub fn put_bytes(out: &mut [u8], s: &[u8]) -> usize
         return put_word(out, b"-");
     }
     put_hexadecimal(out, s)
+}
+
+// ---- lines
+
+// A word and a number at the end of a line.
+pub fn put_last(out: &mut [u8], word: &[u8], n: u64) -> usize
+    requires { ⌜ length (now word) + length (decimal n) + 1 ≤ length (now out) ⌝ }
+    ensures { λ r. ⌜ Written (now (word .entry) ++ decimal n ++ ascii "\n") (now (out .entry)) (now (out .exit)) r ⌝ }
+{
+    let at = put_named(out, word, n);
+    at + put_word(&mut out[at..], b"\n")
+}
+
+// A line of three numbers, each behind its word.
+pub fn put_three(
+    out: &mut [u8],
+    first: &[u8],
+    x: u64,
+    second: &[u8],
+    y: u64,
+    third: &[u8],
+    z: u64,
+) -> usize
+    requires { ⌜ length (now first) + length (decimal x) + (length (now second) + length (decimal y)) + (length (now third) + length (decimal z) + 1) ≤ length (now out) ⌝ }
+    ensures { λ r. ⌜ Written (now (first .entry) ++ decimal x ++ now (second .entry) ++ decimal y ++ now (third .entry) ++ decimal z ++ ascii "\n") (now (out .entry)) (now (out .exit)) r ⌝ }
+{
+    let second_at = put_named(out, first, x);
+    let third_at = second_at + put_named(&mut out[second_at..], second, y);
+    third_at + put_last(&mut out[third_at..], third, z)
+}
+
+// Bytes, and what stands behind them.
+fn put_part(out: &mut [u8], s: &[u8], behind: &[u8]) -> usize
+    requires { ⌜ length (orDash (now s)) + length (now behind) ≤ length (now out) ⌝ }
+    ensures { λ r. ⌜ Written (orDash (now (s .entry)) ++ now (behind .entry)) (now (out .entry)) (now (out .exit)) r ⌝ }
+{
+    let at = put_bytes(out, s);
+    at + put_word(&mut out[at..], behind)
+}
+
+// Two parts at the end of a line.
+pub fn put_pair(out: &mut [u8], first: &[u8], second: &[u8]) -> usize
+    requires { ⌜ length (orDash (now first)) + length (orDash (now second)) + 2 ≤ length (now out) ⌝ }
+    ensures { λ r. ⌜ Written (orDash (now (first .entry)) ++ ascii " " ++ (orDash (now (second .entry)) ++ ascii "\n")) (now (out .entry)) (now (out .exit)) r ⌝ }
+{
+    let at = put_part(out, first, b" ");
+    at + put_part(&mut out[at..], second, b"\n")
 }

@@ -8,7 +8,7 @@ use Rattle.listing.proofs.put_end.Statement.{statement}
 use Rattle.listing.proofs.put_end.Tie as tie
 use Rattle.listing.proofs.put_end.Reads as reads
 use Rattle.listing.proofs.put_end.Lts as lts
-use Rattle.listing.proofs.put_three.Reads as put-three-reads
+use Rattle.text.proofs.put_three.Reads as put-three-reads
 use Rattle.reader.proofs.kept.Reads as kept-reads
 
 kept-requires : tie.Need-kept-requires

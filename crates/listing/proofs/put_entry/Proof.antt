@@ -13,7 +13,7 @@ use Rattle.listing.proofs.put_entry.Reads as reads
 use Rattle.listing.proofs.put_entry.Lts as lts
 use Rattle.entry.proofs.entry_at.Reads as entry-at-reads
 use Rattle.listing.proofs.put_item.Reads as put-item-reads
-use Rattle.listing.proofs.put_last.Reads as put-last-reads
+use Rattle.text.proofs.put_last.Reads as put-last-reads
 
 entry-at-requires : tie.Need-entry-at-requires
 entry-at-requires c κs = search needs

@@ -8,7 +8,7 @@ use Rattle.listing.proofs.put_item.Statement.{statement}
 use Rattle.listing.proofs.put_item.Tie as tie
 use Rattle.listing.proofs.put_item.Reads as reads
 use Rattle.listing.proofs.put_item.Lts as lts
-use Rattle.listing.proofs.put_pair.Reads as put-pair-reads
+use Rattle.text.proofs.put_pair.Reads as put-pair-reads
 use Rattle.listing.proofs.put_type.Reads as put-type-reads
 use Rattle.text.proofs.put_named.Reads as put-named-reads
 

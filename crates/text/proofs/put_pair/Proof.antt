@@ -1,12 +1,12 @@
 use Rattle.text.specs.Written.{room, then}
 use native.Mathlib.Omega.{arith}
 use lib.ListN.{length-append}
 use borrow.Author.Needs.{needs}
-use Rattle.listing.proofs.put_pair.Statement.{statement}
-use Rattle.listing.proofs.put_pair.Tie as tie
-use Rattle.listing.proofs.put_pair.Reads as reads
-use Rattle.listing.proofs.put_pair.Lts as lts
-use Rattle.listing.proofs.put_part.Reads as put-part-reads
+use Rattle.text.proofs.put_pair.Statement.{statement}
+use Rattle.text.proofs.put_pair.Tie as tie
+use Rattle.text.proofs.put_pair.Reads as reads
+use Rattle.text.proofs.put_pair.Lts as lts
+use Rattle.text.proofs.put_part.Reads as put-part-reads
 
 slice-aggregate-put-part : tie.Need-slice-aggregate-put-part
 slice-aggregate-put-part c = search needs

@@ -1,11 +1,11 @@
 use Rattle.text.specs.Written.{then}
 use borrow.Author.Needs.{needs}
-use Rattle.listing.proofs.put_part.Statement.{statement}
-use Rattle.listing.proofs.put_part.Tie as tie
-use Rattle.listing.proofs.put_part.Reads as reads
-use Rattle.listing.proofs.put_part.Lts as lts
+use Rattle.text.proofs.put_part.Statement.{statement}
+use Rattle.text.proofs.put_part.Tie as tie
+use Rattle.text.proofs.put_part.Reads as reads
+use Rattle.text.proofs.put_part.Lts as lts
 use Rattle.text.proofs.put_bytes.Reads as put-bytes-reads
 use Rattle.text.proofs.put_word.Reads as put-word-reads
 
 put-bytes-requires : tie.Need-put-bytes-requires
 put-bytes-requires c κs = search needs
