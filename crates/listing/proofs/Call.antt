@@ -4,7 +4,7 @@ use mathlib.Core.Path.{_≡_, refl, sym, ap, _∙_}
 use mathlib.Core.Bool.{true, not}
 use mathlib.Core.List.{List, _++_}
 use native.Mathlib.Omega.{arith}
-use lib.ListN.{length, length-append}
+use lib.ListN.{length, drop, length-append}
 use borrow.Author.Tests.{ltb-false}
 use Rattle.number.specs.Limit.{limit}
 use Rattle.dialect.specs.declared.Dialect.{Dialect}
@@ -51,3 +51,15 @@ module _ (d : Dialect) (s out : List ℕ) where
   pub wrote : (ys : List ℕ) (k : ℕ) → listRefusal d (length s) (length out) ≡ 0 → Written (listing d s) out ys k → (Wrote k ≡ listed d s out .answer) × (ys ≡ listed d s out .buffer)
   unfolding listed orRefused
   wrote ys k h w = rw h (ap Wrote (w .count), w .bytes)
+
+  -- for callers: what was written is within the buffer
+  pub wrote-within : (ys : List ℕ) (k : ℕ) → Wrote k ≡ listed d s out .answer → ys ≡ listed d s out .buffer → k ≤ length ys
+  unfolding listed orRefused
+  wrote-within ys k a b = go (listRefusal d (length s) (length out)) a b
+    where
+      go : (n : ℕ) → Wrote k ≡ orRefused n (listing d s) out .answer → ys ≡ orRefused n (listing d s) out .buffer → k ≤ length ys
+      go zero a b =
+          let e : k ≡ length (listing d s) = cc in
+          let m : length ys ≡ length (listing d s) + length (drop (length (listing d s)) out) = ap length b ∙ length-append (listing d s) (drop (length (listing d s)) out) in
+          omega arith
+      go (suc n) a b = let z : _≡_ {A = ℕ} 0 1 = cc in absurd (omega arith)
