@@ -16,18 +16,15 @@ use Rattle.entry.specs.Entry.{Put, start, body, end, Stop, entry, put, putAll, 
 use Rattle.reader.specs.Batch.{Batch, batch, judge, openBatch, batchPlan}
 use Rattle.reader.specs.Found.{outcomeOf}
 use Rattle.reader.proofs.Bridge.{hungry}
-use Rattle.laws.specs.Cut.{zeros, Dead, Cuts}
-use Rattle.laws.specs.Journal.{Journal, empty, all, bound, expected, either, Is, cut, journal-clean}
+use Rattle.plan.specs.Cut.{zeros, Dead, Cuts}
+use Rattle.plan.specs.Journal.{Journal, empty, all, bound, expected, either, Is, cut, journal-clean}
+use Rattle.laws.specs.Yields.{Place}
 use Rattle.laws.specs.Written.{Torn, DeadAfter, takes-put, cuts-put, dead-entry}
 
 -- a closed batch: its seqno and its entries, in the order in which they were put
 pub record Closed : Type 0 where
   pub seqno : ℕ
   pub entries : List Put
-
--- a batch, and where it begins and ends
-abbrev pub Place : Type 0
-Place = Batch × ℕ × ℕ
 
 -- as a reader shows it: its count, its seqno, its entries
 abbrev pub accepted : Closed → Batch

@@ -10,6 +10,7 @@ use lib.Seq.{getD-set-same, getD-set-other, getD-append-seam, getD-take, length-
 use borrow.Author.Tests.{eq-eqb, ne-eqb, le-leb, lt-leb}
 use Rattle.number.specs.Number.{times}
 use Rattle.xxh3.specs.Xxh3.{prime64-1, initialAcc, accumulate, finalMerge, hash, xxh3-64-large}
+use Rattle.xxh3.specs.Classes.{hash-large}
 use Rattle.xxh3.specs.Stripes.{stripes, stripes-split, large-by-stripes}
 use Rattle.stream.specs.declared.Hasher.{Hasher}
 use Rattle.stream.specs.Stream.{consumed, absorb1, absorbs, absorbsAll, joined, gather, ends, fresh}
@@ -122,11 +123,6 @@ gather-at h (suc m) f (suc x) l =
     let e : f + 1 + x ≡ f + suc x = omega arith in
     ap (λ (y : List ℕ). getD y (suc x) 0) (gather-suc h m f) ∙ gather-at h m (f + 1) x (omega arith) ∙ ap (λ (n : ℕ). getD h (n % 256) 0) e
 
-hash-long : (k s : List ℕ) → 240 < length s → hash k s ≡ xxh3-64-large k s
-unfolding hash
-hash-long k s l =
-    rw (ne-eqb (length s) 0 (λ e. omega arith), lt-leb (length s) 3 (omega arith), lt-leb (length s) 8 (omega arith), lt-leb (length s) 16 (omega arith), lt-leb (length s) 128 (omega arith), lt-leb (length s) 240 l)
-
 ends-short : (k : List ℕ) (h : Hasher) → h .total ≤ 240 → ends k h ≡ hash k (take (h .total) (h .hold))
 unfolding ends
 ends-short k h l = rw (le-leb (h .total) 240 l)
@@ -178,7 +174,7 @@ ends-law k s h r = go (decLe (h .total) 240)
         let g : 240 < length s = omega arith in
         ends-long k h (omega arith)
         ∙ ap (λ (n : ℕ). finalMerge k (times n prime64-1) 11 (accumulate k (gather (h .hold) 64 (n - 64)) 0 121 (stripes k (h .hold) ((n - 1) % 256 / 64) 0 ((n - 1) / 256 * 4) (h .acc)))) c
-        ∙ whole g ∙ sym (hash-long k s g)
+        ∙ whole g ∙ hash-large k s g
 
 -- finishing after one piece, and after pieces in any cut
 pub streamed : (k s : List ℕ) → ends k (absorbs k fresh s) ≡ hash k s

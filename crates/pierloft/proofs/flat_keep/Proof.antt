@@ -1,0 +1,20 @@
+use borrow.Author.Needs.{needs}
+use Rattle.pierloft.proofs.flat_keep.Statement.{statement}
+use Rattle.pierloft.proofs.flat_keep.Tie as tie
+use Rattle.pierloft.proofs.flat_keep.Reads as reads
+use Rattle.pierloft.proofs.flat_keep.Lts as lts
+
+enum-known-k : tie.Need-enum-known-k
+enum-known-k c = search needs
+
+enum-known-k-2 : tie.Need-enum-known-k-2
+enum-known-k-2 c = search needs
+
+returns : tie.Need-returns
+returns c = rw (c .before .k .given .1)
+
+returns-2 : tie.Need-returns-2
+returns-2 c = rw (c .before .k2 .given .1)
+
+pub flat-keep-spec : {M : Type 1} → statement M
+flat-keep-spec = tie.close (tie.spec enum-known-k enum-known-k-2 returns returns-2)

@@ -1,0 +1,114 @@
+-- The library's values as the numbers that cross to C.
+use Prim.Native.Nat.{ℕ}
+use mathlib.Core.Bool.{Bool, cond, not}
+use lib.Dec.{eqb}
+use Rattle.dialect.specs.declared.Dialect.{Dialect}
+use Rattle.entry.specs.declared.Decoded.{Decoded}
+use Rattle.entry.specs.declared.Decoded.the-variants as decoded
+use Rattle.reader.specs.declared.Answer.{Answer}
+use Rattle.reader.specs.declared.Answer.the-variants as answer
+use Rattle.reader.specs.declared.Keep.{Keep}
+use Rattle.reader.specs.declared.Keep.the-variants as keeps
+use Rattle.reader.specs.declared.Reader.{Reader}
+use Rattle.reader.specs.declared.Stepped.{Stepped}
+use Rattle.stream.specs.declared.Absorbed.{Absorbed}
+use Rattle.stream.specs.declared.Hasher.{Hasher}
+use Rattle.xxh3.specs.declared.Hashed.{Hashed}
+use Rattle.xxh3.specs.declared.Hashed.the-variants as hashed
+use Rattle.pierloft.specs.declared.FlatAbsorbed.{FlatAbsorbed}
+use Rattle.pierloft.specs.declared.FlatCount.{FlatCount}
+use Rattle.pierloft.specs.declared.FlatDialect.{FlatDialect}
+use Rattle.pierloft.specs.declared.FlatEntry.{FlatEntry}
+use Rattle.pierloft.specs.declared.FlatHash.{FlatHash}
+use Rattle.pierloft.specs.declared.FlatHasher.{FlatHasher}
+use Rattle.pierloft.specs.declared.FlatReader.{FlatReader}
+use Rattle.pierloft.specs.declared.FlatStepped.{FlatStepped}
+
+-- ---- dialects
+
+abbrev pub dialectOf : FlatDialect → Dialect
+dialectOf d =
+    record { magic = d .magic; length = d .length; value = d .value; tombstone = d .tombstone; weak = d .weak; indirection = d .indirection; none = d .none }
+
+abbrev pub flatDialect : Dialect → FlatDialect
+flatDialect d =
+    record { magic = d .magic; length = d .length; value = d .value; tombstone = d .tombstone; weak = d .weak; indirection = d .indirection; none = d .none }
+
+-- ---- entries
+
+-- of a code of a good dialect: 0 value, 1 tombstone, 2 weak tombstone, 3 indirection
+unfoldable pub typeNumber : Dialect → ℕ → ℕ
+typeNumber d code = cond (eqb code (d .value)) 0 (cond (eqb code (d .tombstone)) 1 (cond (eqb code (d .weak)) 2 3))
+
+-- no entry: a number
+abbrev pub noEntry : ℕ → FlatEntry
+noEntry n =
+    record { number = n; tag = 0; «value_type» = 0; count = 0; seqno = 0; keyspace = 0; checksum = 0; «key_at» = 0; «key_len» = 0; «value_at» = 0; «value_len» = 0; next = 0 }
+
+-- an entry's tag and its values; what an entry does not have is 0
+abbrev pub flatStart : ℕ → ℕ → ℕ → FlatEntry
+flatStart count seqno next =
+    record { number = 0; tag = 1; «value_type» = 0; count = count; seqno = seqno; keyspace = 0; checksum = 0; «key_at» = 0; «key_len» = 0; «value_at» = 0; «value_len» = 0; next = next }
+
+abbrev pub flatItem : ℕ → ℕ → ℕ → ℕ → ℕ → ℕ → ℕ → FlatEntry
+flatItem type keyspace key keyLength value valueLength next =
+    record { number = 0; tag = 2; «value_type» = type; count = 0; seqno = 0; keyspace = keyspace; checksum = 0; «key_at» = key; «key_len» = keyLength; «value_at» = value; «value_len» = valueLength; next = next }
+
+abbrev pub flatEnd : ℕ → ℕ → FlatEntry
+flatEnd checksum next =
+    record { number = 0; tag = 3; «value_type» = 0; count = 0; seqno = 0; keyspace = 0; checksum = checksum; «key_at» = 0; «key_len» = 0; «value_at» = 0; «value_len» = 0; next = next }
+
+abbrev pub flatClear : ℕ → ℕ → FlatEntry
+flatClear keyspace next =
+    record { number = 0; tag = 4; «value_type» = 0; count = 0; seqno = 0; keyspace = keyspace; checksum = 0; «key_at» = 0; «key_len» = 0; «value_at» = 0; «value_len» = 0; next = next }
+
+abbrev pub flatEntry : Dialect → Decoded → FlatEntry
+flatEntry d (decoded.Start count seqno next) = flatStart count seqno next
+flatEntry d (decoded.Item code keyspace key keyLength value valueLength next) =
+    flatItem (typeNumber d code) keyspace key keyLength value valueLength next
+flatEntry d (decoded.End checksum next) = flatEnd checksum next
+flatEntry d (decoded.Clear keyspace next) = flatClear keyspace next
+flatEntry d (decoded.Fault n) = noEntry n
+flatEntry d (decoded.Refused n) = noEntry n
+
+-- ---- reading
+
+-- a flag is 0 or anything else
+abbrev pub readerOf : FlatReader → Reader
+readerOf r = record { position = r .position; ended = not (eqb (r .ended) 0); outcome = r .outcome }
+
+abbrev pub flatReader : Reader → FlatReader
+flatReader r = record { position = r .position; ended = cond (r .ended) 1 0; outcome = r .outcome }
+
+abbrev pub noBatch : ℕ → ℕ → FlatReader → FlatStepped
+noBatch number outcome goes =
+    record { number = number; accepted = 0; outcome = outcome; seqno = 0; count = 0; body = 0; end = 0; next = 0; reader = goes }
+
+-- a step's answer, between the state that came and the one that goes; a refusal gives the first back as it came
+abbrev pub flatAnswer : FlatReader → FlatReader → Answer → FlatStepped
+flatAnswer came goes (answer.Accepted q c b e j) =
+    record { number = 0; accepted = 1; outcome = 0; seqno = q; count = c; body = b; end = e; next = j; reader = goes }
+flatAnswer came goes (answer.Ended o) = noBatch 0 o goes
+flatAnswer came goes (answer.Refused n) = noBatch n 0 came
+
+abbrev pub flatStepped : FlatReader → Stepped → FlatStepped
+flatStepped came s = flatAnswer came (flatReader (s .reader)) (s .answer)
+
+abbrev pub flatKeep : Keep → FlatCount
+flatKeep (keeps.Bytes n) = record { number = 0; bytes = n }
+flatKeep (keeps.Refused n) = record { number = n; bytes = 0 }
+
+-- ---- XXH3-64
+
+abbrev pub flatHash : Hashed → FlatHash
+flatHash (hashed.Sum h) = record { number = 0; hash = h }
+flatHash (hashed.Refused n) = record { number = n; hash = 0 }
+
+abbrev pub hasherOf : FlatHasher → Hasher
+hasherOf h = record { acc = h .acc; hold = h .hold; total = h .total }
+
+abbrev pub flatHasher : Hasher → FlatHasher
+flatHasher h = record { acc = h .acc; hold = h .hold; total = h .total }
+
+abbrev pub flatAbsorbed : Absorbed → FlatAbsorbed
+flatAbsorbed a = record { number = a .number; state = flatHasher (a .state) }

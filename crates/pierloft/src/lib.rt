@@ -1,0 +1,485 @@
+// What Rust and C call: numbers, slices and structs of numbers. include/pierloft.h declares and documents each exported function. A layer
+// over the calls of the other crates and no more: enums become numbers, and a flag is 0 or not. Public: the functions pierloft_*.
+ghost use mathlib.Core.Path.{_≡_};
+ghost use mathlib.Core.Bool.{cond, not};
+ghost use Rattle.dialect.specs.Dialect.{good, SHIPPED as shippedDialect, TEST as testDialect};
+ghost use Rattle.refusal.specs.Refusal.{whenOf};
+ghost use Rattle.entry.specs.Decoded.{decoded};
+ghost use Rattle.xxh3.specs.Xxh3.{defaultSecret, hash};
+ghost use Rattle.xxh3.specs.Hashed.{hashed};
+ghost use Rattle.stream.specs.Stream.{fresh};
+ghost use Rattle.stream.specs.Calls.{absorbed, finished};
+ghost use Rattle.reader.specs.Reading.{stepped, keptOf};
+ghost use Rattle.pierloft.specs.Flat.{dialectOf, flatDialect, typeNumber, noEntry, flatStart, flatItem, flatEnd, flatClear, flatEntry, noBatch, readerOf, flatReader, flatStepped, flatKeep, flatHash, hasherOf, flatHasher, flatAbsorbed};
+use dialect::Dialect;
+use entry::Decoded;
+use reader::Answer;
+use reader::Keep;
+use reader::Reader;
+use reader::Stepped;
+use stream::Absorbed;
+use stream::Hasher;
+use xxh3::Hashed;
+
+#[repr(C)]
+pub struct FlatDialect {
+    pub magic: [u8; 8],
+    pub length: usize,
+    pub value: u8,
+    pub tombstone: u8,
+    pub weak: u8,
+    pub indirection: u8,
+    pub none: u8,
+}
+
+#[repr(C)]
+pub struct FlatEntry {
+    pub number: u32,
+    pub tag: u8,
+    pub value_type: u8,
+    pub count: u64,
+    pub seqno: u64,
+    pub keyspace: u64,
+    pub checksum: u64,
+    pub key_at: usize,
+    pub key_len: usize,
+    pub value_at: usize,
+    pub value_len: usize,
+    pub next: usize,
+}
+
+#[repr(C)]
+pub struct FlatReader {
+    pub position: usize,
+    pub ended: u32,
+    pub outcome: u32,
+}
+
+#[repr(C)]
+pub struct FlatStepped {
+    pub number: u32,
+    pub accepted: u32,
+    pub outcome: u32,
+    pub seqno: u64,
+    pub count: u64,
+    pub body: usize,
+    pub end: usize,
+    pub next: usize,
+    pub reader: FlatReader,
+}
+
+#[repr(C)]
+pub struct FlatCount {
+    pub number: u32,
+    pub bytes: usize,
+}
+
+#[repr(C)]
+pub struct FlatHash {
+    pub number: u32,
+    pub hash: u64,
+}
+
+#[repr(C)]
+pub struct FlatHasher {
+    pub acc: [u64; 8],
+    pub hold: [u8; 256],
+    pub total: u64,
+}
+
+#[repr(C)]
+pub struct FlatAbsorbed {
+    pub number: u32,
+    pub state: FlatHasher,
+}
+
+// ---- dialects
+
+fn dialect_of(d: FlatDialect) -> Dialect
+    ensures { λ r. ⌜ r ≡ dialectOf d ⌝ }
+{
+    let magic = d.magic;
+    Dialect {
+        magic,
+        length: d.length,
+        value: d.value,
+        tombstone: d.tombstone,
+        weak: d.weak,
+        indirection: d.indirection,
+        none: d.none,
+    }
+}
+
+fn flat_dialect(d: Dialect) -> FlatDialect
+    ensures { λ r. ⌜ r ≡ flatDialect d ⌝ }
+{
+    let magic = d.magic;
+    FlatDialect {
+        magic,
+        length: d.length,
+        value: d.value,
+        tombstone: d.tombstone,
+        weak: d.weak,
+        indirection: d.indirection,
+        none: d.none,
+    }
+}
+
+#[no_mangle]
+pub extern "C" fn pierloft_shipped() -> FlatDialect
+    ensures { λ r. ⌜ r ≡ flatDialect shippedDialect ⌝ }
+{
+    flat_dialect(Dialect::shipped())
+}
+
+#[no_mangle]
+pub extern "C" fn pierloft_test() -> FlatDialect
+    ensures { λ r. ⌜ r ≡ flatDialect testDialect ⌝ }
+{
+    flat_dialect(Dialect::test())
+}
+
+#[no_mangle]
+pub extern "C" fn pierloft_check(d: FlatDialect) -> u32
+    ensures { λ r. ⌜ r ≡ whenOf (not (good (dialectOf d))) 20 ⌝ }
+{
+    refusal::when(!dialect_of(d).is_good(), 20)
+}
+
+// ---- entries
+
+fn type_number(d: Dialect, code: u8) -> u8
+    ensures { λ r. ⌜ r ≡ typeNumber d code ⌝ }
+{
+    if code == d.value {
+        return 0;
+    }
+    if code == d.tombstone {
+        return 1;
+    }
+    if code == d.weak {
+        return 2;
+    }
+    3
+}
+
+fn no_entry(number: u32) -> FlatEntry
+    ensures { λ r. ⌜ r ≡ noEntry number ⌝ }
+{
+    FlatEntry {
+        number,
+        tag: 0,
+        value_type: 0,
+        count: 0,
+        seqno: 0,
+        keyspace: 0,
+        checksum: 0,
+        key_at: 0,
+        key_len: 0,
+        value_at: 0,
+        value_len: 0,
+        next: 0,
+    }
+}
+
+fn flat_item(
+    value_type: u8,
+    keyspace: u64,
+    key_at: usize,
+    key_len: usize,
+    value_at: usize,
+    value_len: usize,
+    next: usize,
+) -> FlatEntry
+    ensures { λ r. ⌜ r ≡ flatItem «value_type» keyspace «key_at» «key_len» «value_at» «value_len» next ⌝ }
+{
+    FlatEntry {
+        number: 0,
+        tag: 2,
+        value_type,
+        count: 0,
+        seqno: 0,
+        keyspace,
+        checksum: 0,
+        key_at,
+        key_len,
+        value_at,
+        value_len,
+        next,
+    }
+}
+
+fn flat_start(count: u64, seqno: u64, next: usize) -> FlatEntry
+    ensures { λ r. ⌜ r ≡ flatStart count seqno next ⌝ }
+{
+    FlatEntry {
+        number: 0,
+        tag: 1,
+        value_type: 0,
+        count,
+        seqno,
+        keyspace: 0,
+        checksum: 0,
+        key_at: 0,
+        key_len: 0,
+        value_at: 0,
+        value_len: 0,
+        next,
+    }
+}
+
+fn flat_end(checksum: u64, next: usize) -> FlatEntry
+    ensures { λ r. ⌜ r ≡ flatEnd checksum next ⌝ }
+{
+    FlatEntry {
+        number: 0,
+        tag: 3,
+        value_type: 0,
+        count: 0,
+        seqno: 0,
+        keyspace: 0,
+        checksum,
+        key_at: 0,
+        key_len: 0,
+        value_at: 0,
+        value_len: 0,
+        next,
+    }
+}
+
+fn flat_clear(keyspace: u64, next: usize) -> FlatEntry
+    ensures { λ r. ⌜ r ≡ flatClear keyspace next ⌝ }
+{
+    FlatEntry {
+        number: 0,
+        tag: 4,
+        value_type: 0,
+        count: 0,
+        seqno: 0,
+        keyspace,
+        checksum: 0,
+        key_at: 0,
+        key_len: 0,
+        value_at: 0,
+        value_len: 0,
+        next,
+    }
+}
+
+fn flat_entry(d: Dialect, e: Decoded) -> FlatEntry
+    ensures { λ r. ⌜ r ≡ flatEntry d e ⌝ }
+{
+    match e {
+        Decoded::Start { count, seqno, next } => flat_start(count, seqno, next),
+        Decoded::Item {
+            value_type,
+            keyspace,
+            key_at,
+            key_len,
+            value_at,
+            value_len,
+            next,
+        } => flat_item(
+            type_number(d, value_type),
+            keyspace,
+            key_at,
+            key_len,
+            value_at,
+            value_len,
+            next,
+        ),
+        Decoded::End { checksum, next } => flat_end(checksum, next),
+        Decoded::Clear { keyspace, next } => flat_clear(keyspace, next),
+        Decoded::Fault(n) => no_entry(n),
+        Decoded::Refused(n) => no_entry(n),
+    }
+}
+
+#[no_mangle]
+pub extern "C" fn pierloft_decode(image: &[u8], at: usize, d: FlatDialect) -> FlatEntry
+    ensures { λ r. ⌜ r ≡ flatEntry (dialectOf d) (decoded (dialectOf d) (now (image .entry)) at) ⌝ }
+{
+    let dialect = dialect_of(d);
+    flat_entry(dialect, entry::decode(image, at, dialect))
+}
+
+// ---- reading
+
+fn flag(x: bool) -> u32
+    ensures { λ r. ⌜ r ≡ cond x 1 0 ⌝ }
+{
+    x as u32
+}
+
+fn reader_of(r: FlatReader) -> Reader
+    ensures { λ s. ⌜ s ≡ readerOf r ⌝ }
+{
+    Reader {
+        position: r.position,
+        ended: r.ended != 0,
+        outcome: r.outcome,
+    }
+}
+
+fn flat_reader(r: Reader) -> FlatReader
+    ensures { λ s. ⌜ s ≡ flatReader r ⌝ }
+{
+    FlatReader {
+        position: r.position,
+        ended: flag(r.ended),
+        outcome: r.outcome,
+    }
+}
+
+fn flat_stepped(came: FlatReader, s: Stepped) -> FlatStepped
+    ensures { λ r. ⌜ r ≡ flatStepped came s ⌝ }
+{
+    let answer = s.answer;
+    let reader = s.reader;
+    match answer {
+        Answer::Accepted {
+            seqno,
+            count,
+            body,
+            end,
+            next,
+        } => FlatStepped {
+            number: 0,
+            accepted: 1,
+            outcome: 0,
+            seqno,
+            count,
+            body,
+            end,
+            next,
+            reader: flat_reader(reader),
+        },
+        Answer::Ended(outcome) => no_batch(0, outcome, flat_reader(reader)),
+        Answer::Refused(number) => no_batch(number, 0, came),
+    }
+}
+
+fn no_batch(number: u32, outcome: u32, reader: FlatReader) -> FlatStepped
+    ensures { λ r. ⌜ r ≡ noBatch number outcome reader ⌝ }
+{
+    FlatStepped {
+        number,
+        accepted: 0,
+        outcome,
+        seqno: 0,
+        count: 0,
+        body: 0,
+        end: 0,
+        next: 0,
+        reader,
+    }
+}
+
+#[no_mangle]
+pub extern "C" fn pierloft_step(image: &[u8], reader: FlatReader, d: FlatDialect) -> FlatStepped
+    ensures { λ r. ⌜ r ≡ flatStepped reader (stepped (dialectOf d) (hash defaultSecret) (now (image .entry)) (readerOf reader)) ⌝ }
+{
+    flat_stepped(
+        reader,
+        reader::step(image, reader_of(reader), dialect_of(d)),
+    )
+}
+
+fn flat_keep(k: Keep) -> FlatCount
+    ensures { λ r. ⌜ r ≡ flatKeep k ⌝ }
+{
+    match k {
+        Keep::Bytes(bytes) => FlatCount { number: 0, bytes },
+        Keep::Refused(number) => FlatCount { number, bytes: 0 },
+    }
+}
+
+#[no_mangle]
+pub extern "C" fn pierloft_kept(length: usize, reader: FlatReader) -> FlatCount
+    ensures { λ r. ⌜ r ≡ flatKeep (keptOf length (readerOf reader)) ⌝ }
+{
+    flat_keep(reader::kept(length, reader_of(reader)))
+}
+
+// ---- XXH3-64
+
+fn flat_hash(h: Hashed) -> FlatHash
+    ensures { λ r. ⌜ r ≡ flatHash h ⌝ }
+{
+    match h {
+        Hashed::Sum(hash) => FlatHash { number: 0, hash },
+        Hashed::Refused(number) => FlatHash { number, hash: 0 },
+    }
+}
+
+fn hasher_of(h: FlatHasher) -> Hasher
+    ensures { λ r. ⌜ r ≡ hasherOf h ⌝ }
+{
+    let acc = h.acc;
+    let hold = h.hold;
+    Hasher {
+        acc,
+        hold,
+        total: h.total,
+    }
+}
+
+fn flat_hasher(h: Hasher) -> FlatHasher
+    ensures { λ r. ⌜ r ≡ flatHasher h ⌝ }
+{
+    let acc = h.acc;
+    let hold = h.hold;
+    FlatHasher {
+        acc,
+        hold,
+        total: h.total,
+    }
+}
+
+fn flat_absorbed(a: Absorbed) -> FlatAbsorbed
+    ensures { λ r. ⌜ r ≡ flatAbsorbed a ⌝ }
+{
+    let state = a.state;
+    FlatAbsorbed {
+        number: a.number,
+        state: flat_hasher(state),
+    }
+}
+
+#[no_mangle]
+pub extern "C" fn pierloft_xxh3_64(bytes: &[u8]) -> FlatHash
+    ensures { λ r. ⌜ r ≡ flatHash (hashed (now (bytes .entry))) ⌝ }
+{
+    flat_hash(xxh3::xxh3_64(bytes))
+}
+
+#[no_mangle]
+pub extern "C" fn pierloft_hasher_new() -> FlatHasher
+    ensures { λ r. ⌜ r ≡ flatHasher fresh ⌝ }
+{
+    flat_hasher(Hasher::new())
+}
+
+#[no_mangle]
+pub extern "C" fn pierloft_absorb(state: FlatHasher, piece: &[u8]) -> FlatAbsorbed
+    ensures { λ r. ⌜ r ≡ flatAbsorbed (absorbed (hasherOf state) (now (piece .entry))) ⌝ }
+{
+    flat_absorbed(stream::absorb(hasher_of(state), piece))
+}
+
+#[no_mangle]
+pub extern "C" fn pierloft_finish(state: FlatHasher) -> FlatHash
+    ensures { λ r. ⌜ r ≡ flatHash (finished (hasherOf state)) ⌝ }
+{
+    flat_hash(stream::finish(hasher_of(state)))
+}
+
+// `pierloft_absorb` on a state that is lent and changed in place.
+#[no_mangle]
+pub extern "C" fn pierloft_absorb_into(state: &mut FlatHasher, piece: &[u8]) -> u32
+    ensures { λ r. ⌜ (r ≡ flatAbsorbed (absorbed (hasherOf (now (state .entry))) (now (piece .entry))) .number) × (now (state .exit) ≡ flatAbsorbed (absorbed (hasherOf (now (state .entry))) (now (piece .entry))) .state) ⌝ }
+{
+    let t = pierloft_absorb(*state, piece);
+    *state = t.state;
+    t.number
+}

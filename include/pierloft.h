@@ -1,0 +1,177 @@
+/* Pierloft: the journal of fjall 3.1.13, uncompressed, proved. The functions of target/staticlib/libpierloft.a (`rt staticlib pierloft`).
+ *
+ * Each function's contract is proved; these declarations are not, and tests/c holds them to the library.
+ *
+ * No function allocates, keeps a pointer, reads a clock or calls the system. A pointer comes with its length, stays the caller's, and is not
+ * used after the call. It must not be null, unless the length is 0. Buffers that a call writes to must not overlap what it reads. No
+ * contents, state, position or dialect is forbidden: what is wrong is refused.
+ *
+ * A refused call answers a number, writes no byte and gives the state back as it came; every other field of its answer is 0.
+ */
+#ifndef PIERLOFT_H
+#define PIERLOFT_H
+
+#include <stddef.h>
+#include <stdint.h>
+
+#ifdef __cplusplus
+extern "C" {
+#endif
+
+/* Numbers that a call may answer; 0 where it is not refused. The first that applies, in the order 20, 21, 22, 24, 23, 26, 25, 27. */
+enum {
+    PIERLOFT_DIALECT = 20,    /* the dialect is not good */
+    PIERLOFT_TOO_LONG = 21,   /* a buffer, or a hash's total after this piece, above 4,294,967,295 bytes */
+    PIERLOFT_STATE = 22,      /* a position past the buffer, or a state that is out of range */
+    PIERLOFT_COUNT = 23,      /* a batch opened with a count above 4,294,967,295 */
+    PIERLOFT_ORDER = 24,      /* open, write_raw or write_clear inside a batch; a put or close outside */
+    PIERLOFT_KEY = 25,        /* a key above 65,535 bytes, or an empty key put in a batch */
+    PIERLOFT_COUNTED = 26,    /* a put with none to come, or close with some to come */
+    PIERLOFT_NO_ROOM = 27,    /* the buffer is too short */
+    PIERLOFT_INCOMPLETE = 30, /* an entry's field runs past the image */
+    PIERLOFT_TAG = 31,        /* a tag that is not 1 to 4 */
+    PIERLOFT_VALUE_TYPE = 32, /* a type code that is none of the dialect's; or a value type handed to a call that is none of the four below */
+    PIERLOFT_COMPRESSION = 33,/* a compression code that is not the dialect's */
+    PIERLOFT_TRAILER = 34,    /* the magic is not there */
+    PIERLOFT_NOT_AN_ITEM = 35 /* a key or a value asked for at a Start, End or Clear */
+};
+
+/* How a reading ended. */
+enum {
+    PIERLOFT_CLEAN = 0,        /* keep all bytes */
+    PIERLOFT_TORN = 1,         /* keep those up to the last valid position */
+    PIERLOFT_INSUFFICIENT = 2, /* an End with entries still to come: keep all */
+    PIERLOFT_TOO_MANY = 3,     /* an entry with none to come: keep all */
+    PIERLOFT_MISMATCH = 4      /* another checksum: keep all */
+};
+
+/* The four types of an Item's value. */
+enum {
+    PIERLOFT_VALUE = 0,
+    PIERLOFT_TOMBSTONE = 1,
+    PIERLOFT_WEAK_TOMBSTONE = 2,
+    PIERLOFT_INDIRECTION = 3
+};
+
+/* An entry's tag. */
+enum {
+    PIERLOFT_START = 1,
+    PIERLOFT_ITEM = 2,
+    PIERLOFT_END = 3,
+    PIERLOFT_CLEAR = 4
+};
+
+/* ---- dialects */
+
+/* The numbers that the format leaves open. Good if length is 1 to 8, the last used byte of the magic is not 0, its unused bytes are 0, and
+ * the four codes differ pairwise. */
+typedef struct {
+    uint8_t magic[8];
+    size_t length;
+    uint8_t value;
+    uint8_t tombstone;
+    uint8_t weak;
+    uint8_t indirection;
+    uint8_t none; /* the code for no compression */
+} pierloft_dialect;
+
+/* fjall 3.1.13's. The codes of the value types are not confirmed: docs/DIFFERENCES.md. */
+pierloft_dialect pierloft_shipped(void);
+
+/* Magic 4A 4C 31 01, codes 0, 1, 2, 3, compression 0. */
+pierloft_dialect pierloft_test(void);
+
+/* 0, or PIERLOFT_DIALECT where it is not good. Every call that takes a dialect looks for itself. */
+uint32_t pierloft_check(pierloft_dialect dialect);
+
+/* ---- reading */
+
+/* Where a reading stands. It starts as {0, 0, 0}. `ended` is 0 or not. */
+typedef struct {
+    size_t position;
+    uint32_t ended;
+    uint32_t outcome;
+} pierloft_reader;
+
+/* What a step came to: with number 0, an accepted batch (accepted is 1), or the end of the reading (accepted is 0) by its outcome. */
+typedef struct {
+    uint32_t number;
+    uint32_t accepted;
+    uint32_t outcome;
+    uint64_t seqno;
+    uint64_t count;
+    size_t body; /* the batch's entries lie from here .. */
+    size_t end;  /* .. to here */
+    size_t next; /* and the next batch begins here */
+    pierloft_reader reader; /* to hand to the next step */
+} pierloft_stepped;
+
+/* The next batch of an image, or the end of its reading. An ended state answers its outcome again. */
+pierloft_stepped pierloft_step(const uint8_t *image, size_t length, pierloft_reader reader, pierloft_dialect dialect);
+
+/* A number of bytes. */
+typedef struct {
+    uint32_t number;
+    size_t bytes;
+} pierloft_count;
+
+/* How many of an image's bytes to keep, where its reading stands so. */
+pierloft_count pierloft_kept(size_t length, pierloft_reader reader);
+
+/* What stands at a position: with number 0, an entry, by its tag; the fields that it does not have are 0. Key and value are the image's own
+ * bytes from key_at and value_at on. */
+typedef struct {
+    uint32_t number;
+    uint8_t tag;
+    uint8_t value_type;
+    uint64_t count;    /* Start */
+    uint64_t seqno;    /* Start */
+    uint64_t keyspace; /* Item, Clear */
+    uint64_t checksum; /* End */
+    size_t key_at;     /* Item */
+    size_t key_len;
+    size_t value_at;
+    size_t value_len;
+    size_t next; /* where the entry ends */
+} pierloft_entry;
+
+pierloft_entry pierloft_decode(const uint8_t *image, size_t length, size_t at, pierloft_dialect dialect);
+
+/* ---- XXH3-64, seed 0 and the default secret */
+
+/* A hash; or PIERLOFT_TOO_LONG or PIERLOFT_STATE. */
+typedef struct {
+    uint32_t number;
+    uint64_t hash;
+} pierloft_hash;
+
+pierloft_hash pierloft_xxh3_64(const uint8_t *bytes, size_t length);
+
+/* Where a hash by pieces stands: the accumulators, the last bytes of the input (byte n at place n mod 256), and how many came. */
+typedef struct {
+    uint64_t acc[8];
+    uint8_t hold[256];
+    uint64_t total;
+} pierloft_hasher;
+
+typedef struct {
+    uint32_t number;
+    pierloft_hasher state;
+} pierloft_absorbed;
+
+pierloft_hasher pierloft_hasher_new(void);
+
+/* The state after a piece, or PIERLOFT_TOO_LONG where the total would pass the limit. */
+pierloft_absorbed pierloft_absorb(pierloft_hasher state, const uint8_t *piece, size_t length);
+
+/* The same on a state that is changed in place; the number is what it answers. */
+uint32_t pierloft_absorb_into(pierloft_hasher *state, const uint8_t *piece, size_t length);
+
+/* The hash of the pieces joined, or PIERLOFT_STATE where the state's total is past the limit. */
+pierloft_hash pierloft_finish(pierloft_hasher state);
+
+#ifdef __cplusplus
+}
+#endif
+
+#endif

@@ -1,0 +1,183 @@
+/* Each exported function, called from C by the declarations of include/pierloft.h: its answer on inputs whose answers document 01 gives,
+ * and what it gives back of a state that it refuses, so that every field of every struct is seen to cross. layout.h, which layout.awk
+ * makes, holds the structs and the functions' types to the source. */
+#include "pierloft.h"
+#include <stdio.h>
+#include <string.h>
+
+#define HELD(what) _Static_assert(what, #what)
+#include "layout.h"
+
+static int checks, failures;
+
+static void is(int line, const char *what, int so)
+{
+    checks++;
+    if (!so) {
+        failures++;
+        printf("answers.c:%d: not so: %s\n", line, what);
+    }
+}
+#define IS(so) is(__LINE__, #so, so)
+
+/* A batch of seqno 7 under TEST: a value in keyspace 2, key `a`, value `xy`; then its End; and three zeros behind. */
+static const uint8_t journal[53] = {
+    1, 1, 0, 0, 0, 7, 0, 0, 0, 0, 0, 0, 0,                                     /* Start */
+    2, 0, 0, 2, 0, 0, 0, 0, 0, 0, 0, 1, 0, 2, 0, 0, 0, 2, 0, 0, 0, 0x61, 0x78, 0x79, /* Item */
+    3, 0x58, 0xad, 0x25, 0xba, 0x4e, 0xb1, 0x51, 0xdd, 0x4a, 0x4c, 0x31, 1,    /* End */
+    0, 0, 0};
+
+static const pierloft_reader begin = {0, 0, 0};
+
+static int same_reader(pierloft_reader a, pierloft_reader b)
+{
+    return a.position == b.position && a.ended == b.ended && a.outcome == b.outcome;
+}
+
+static void dialects(void)
+{
+    static const uint8_t shipped[8] = {0x46, 0x4a, 0x4c, 3}, test[8] = {0x4a, 0x4c, 0x31, 1};
+    pierloft_dialect d = pierloft_shipped();
+    IS(memcmp(d.magic, shipped, 8) == 0 && d.length == 4);
+    IS(d.value == 0 && d.tombstone == 1 && d.weak == 2 && d.indirection == 4 && d.none == 0);
+    IS(pierloft_check(d) == 0);
+    d = pierloft_test();
+    IS(memcmp(d.magic, test, 8) == 0 && d.length == 4);
+    IS(d.value == 0 && d.tombstone == 1 && d.weak == 2 && d.indirection == 3 && d.none == 0);
+    IS(pierloft_check(d) == 0);
+    d.length = 9;
+    IS(pierloft_check(d) == PIERLOFT_DIALECT);
+    d.length = 0;
+    IS(pierloft_check(d) == PIERLOFT_DIALECT);
+    d.length = 3;
+    IS(pierloft_check(d) == PIERLOFT_DIALECT);
+    d = pierloft_test();
+    d.magic[7] = 1;
+    IS(pierloft_check(d) == PIERLOFT_DIALECT);
+    d.length = 8;
+    IS(pierloft_check(d) == 0);
+    d.indirection = d.tombstone;
+    IS(pierloft_check(d) == PIERLOFT_DIALECT);
+    d.none = 9;
+    d.indirection = 9;
+    IS(pierloft_check(d) == 0);
+}
+
+static void entries(void)
+{
+    pierloft_dialect d = pierloft_test();
+    pierloft_entry e = pierloft_decode(journal, sizeof journal, 0, d);
+    IS(e.number == 0 && e.tag == PIERLOFT_START && e.count == 1 && e.seqno == 7 && e.next == 13);
+    IS(e.value_type == 0 && e.keyspace == 0 && e.checksum == 0 && e.key_at == 0 && e.key_len == 0 && e.value_at == 0 && e.value_len == 0);
+    e = pierloft_decode(journal, sizeof journal, 13, d);
+    IS(e.number == 0 && e.tag == PIERLOFT_ITEM && e.value_type == PIERLOFT_VALUE && e.keyspace == 2);
+    IS(e.key_at == 34 && e.key_len == 1 && e.value_at == 35 && e.value_len == 2 && e.next == 37);
+    IS(e.count == 0 && e.seqno == 0 && e.checksum == 0);
+    e = pierloft_decode(journal, sizeof journal, 37, d);
+    IS(e.number == 0 && e.tag == PIERLOFT_END && e.checksum == UINT64_C(0xdd51b14eba25ad58) && e.next == 50);
+    IS(pierloft_decode(journal, sizeof journal, 50, d).number == PIERLOFT_TAG);
+    IS(pierloft_decode(journal, sizeof journal, 53, d).number == PIERLOFT_INCOMPLETE);
+    IS(pierloft_decode(journal, sizeof journal, 54, d).number == PIERLOFT_STATE);
+    IS(pierloft_decode(journal, 49, 37, d).number == PIERLOFT_INCOMPLETE);
+    IS(pierloft_decode(NULL, 0, 0, d).number == PIERLOFT_INCOMPLETE);
+    static const uint8_t clear[9] = {4, 2, 0, 0, 0, 0, 0, 0, 1};
+    e = pierloft_decode(clear, sizeof clear, 0, d);
+    IS(e.number == 0 && e.tag == PIERLOFT_CLEAR && e.keyspace == (UINT64_C(1) << 56 | 2) && e.next == 9);
+    /* each field of the dialect has its say */
+    d.none = 1;
+    IS(pierloft_decode(journal, sizeof journal, 13, d).number == PIERLOFT_COMPRESSION);
+    d = pierloft_test();
+    d.value = 4;
+    IS(pierloft_decode(journal, sizeof journal, 13, d).number == PIERLOFT_VALUE_TYPE);
+    d.tombstone = 0;
+    IS(pierloft_decode(journal, sizeof journal, 13, d).value_type == PIERLOFT_TOMBSTONE);
+    d.tombstone = 1;
+    d.weak = 0;
+    IS(pierloft_decode(journal, sizeof journal, 13, d).value_type == PIERLOFT_WEAK_TOMBSTONE);
+    d.weak = 2;
+    d.indirection = 0;
+    IS(pierloft_decode(journal, sizeof journal, 13, d).value_type == PIERLOFT_INDIRECTION);
+    d = pierloft_test();
+    d.magic[3] = 2;
+    IS(pierloft_decode(journal, sizeof journal, 37, d).number == PIERLOFT_TRAILER);
+    d.magic[3] = 0;
+    e = pierloft_decode(journal, sizeof journal, 37, d);
+    IS(e.number == PIERLOFT_DIALECT && e.tag == 0 && e.checksum == 0 && e.next == 0);
+    d.length = 3;
+    e = pierloft_decode(journal, sizeof journal, 37, d);
+    IS(e.number == 0 && e.next == 49);
+}
+
+static void reading(void)
+{
+    pierloft_dialect d = pierloft_test();
+    pierloft_stepped s = pierloft_step(journal, sizeof journal, begin, d);
+    pierloft_reader on = {50, 0, 0}, torn = {50, 1, PIERLOFT_TORN}, odd = {51, 7, 5}, any = {50, 0, 9};
+    IS(s.number == 0 && s.accepted == 1 && s.outcome == 0 && s.seqno == 7 && s.count == 1);
+    IS(s.body == 13 && s.end == 37 && s.next == 50 && same_reader(s.reader, on));
+    s = pierloft_step(journal, sizeof journal, s.reader, d);
+    IS(s.number == 0 && s.accepted == 0 && s.outcome == PIERLOFT_TORN && same_reader(s.reader, torn));
+    IS(s.seqno == 0 && s.count == 0 && s.body == 0 && s.end == 0 && s.next == 0);
+    s = pierloft_step(journal, sizeof journal, s.reader, d);
+    IS(s.number == 0 && s.accepted == 0 && s.outcome == PIERLOFT_TORN && same_reader(s.reader, torn));
+    s = pierloft_step(journal, 50, on, d);
+    IS(s.number == 0 && s.accepted == 0 && s.outcome == PIERLOFT_CLEAN && s.reader.ended == 1 && s.reader.position == 50);
+    s = pierloft_step(NULL, 0, begin, d);
+    IS(s.number == 0 && s.accepted == 0 && s.outcome == PIERLOFT_CLEAN);
+    /* a refusal gives the state back as it came */
+    s = pierloft_step(journal, sizeof journal, odd, d);
+    IS(s.number == PIERLOFT_STATE && s.accepted == 0 && s.outcome == 0 && same_reader(s.reader, odd));
+    s = pierloft_step(journal, 49, any, d);
+    IS(s.number == PIERLOFT_STATE && same_reader(s.reader, any));
+    d.length = 0;
+    s = pierloft_step(journal, sizeof journal, any, d);
+    IS(s.number == PIERLOFT_DIALECT && same_reader(s.reader, any));
+    /* what is kept */
+    IS(pierloft_kept(53, torn).number == 0 && pierloft_kept(53, torn).bytes == 50);
+    IS(pierloft_kept(53, on).bytes == 53 && pierloft_kept(53, any).bytes == 53);
+    torn.outcome = PIERLOFT_MISMATCH;
+    IS(pierloft_kept(53, torn).bytes == 53);
+    IS(pierloft_kept(49, torn).number == PIERLOFT_STATE && pierloft_kept(49, torn).bytes == 0);
+    IS(pierloft_kept((size_t)1 << 32, torn).number == PIERLOFT_TOO_LONG);
+}
+
+static void hashes(void)
+{
+    const uint64_t none = UINT64_C(0x2d06800538d394c2); /* of no bytes, as published */
+    pierloft_hash h = pierloft_xxh3_64(NULL, 0);
+    IS(h.number == 0 && h.hash == none);
+    h = pierloft_xxh3_64(journal + 13, 24);
+    IS(h.number == 0 && h.hash == UINT64_C(0xdd51b14eba25ad58));
+    pierloft_hasher new = pierloft_hasher_new(), lent = new;
+    IS(new.total == 0 && new.acc[0] == UINT64_C(0xc2b2ae3d) && new.acc[7] == UINT64_C(0x9e3779b1) && new.hold[255] == 0);
+    IS(pierloft_finish(new).hash == none);
+    pierloft_absorbed a = pierloft_absorb(new, journal + 13, 20);
+    IS(a.number == 0 && a.state.total == 20 && memcmp(a.state.hold, journal + 13, 20) == 0);
+    IS(pierloft_absorb_into(&lent, journal + 13, 20) == 0 && memcmp(&lent, &a.state, sizeof lent) == 0);
+    a = pierloft_absorb(a.state, journal + 33, 4);
+    IS(a.number == 0 && pierloft_finish(a.state).hash == UINT64_C(0xdd51b14eba25ad58));
+    IS(pierloft_absorb_into(&lent, journal + 33, 4) == 0 && memcmp(&lent, &a.state, sizeof lent) == 0);
+    lent.total = UINT64_C(0xfffffffe);
+    for (int i = 0; i < 8; i++)
+        lent.acc[i] = 100 + i;
+    for (int i = 0; i < 256; i++)
+        lent.hold[i] = 255 - i;
+    pierloft_hasher came = lent;
+    a = pierloft_absorb(lent, journal, 2);
+    IS(a.number == PIERLOFT_TOO_LONG && memcmp(&a.state, &came, sizeof came) == 0);
+    IS(pierloft_absorb_into(&lent, journal, 2) == PIERLOFT_TOO_LONG && memcmp(&lent, &came, sizeof came) == 0);
+    IS(pierloft_absorb_into(&lent, journal, 1) == 0 && lent.total == UINT64_C(0xffffffff));
+    lent.total++;
+    h = pierloft_finish(lent);
+    IS(h.number == PIERLOFT_STATE && h.hash == 0);
+}
+
+int main(void)
+{
+    dialects();
+    entries();
+    reading();
+    hashes();
+    printf("%d checks, %d failed\n", checks, failures);
+    return failures != 0;
+}

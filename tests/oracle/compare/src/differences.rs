@@ -1,0 +1,116 @@
+//! The departures that docs/DIFFERENCES.md lists, under the names it gives them: each with its smallest input, both sides run and held
+//! to what is written there.
+use crate::make::{image, Sum, Token};
+use crate::ours::{self, Ours};
+use answers::{Call, Dialect, Item, Judge, Kind};
+use fjall_test::Fjall;
+use std::panic::{catch_unwind, AssertUnwindSafe};
+
+fn start(count: u32) -> Token {
+    Token::Start { count, seqno: 7 }
+}
+
+/// A1 to A10: the Rust, called on behind its first end or error. An image, what both sides say of it (outcome, bytes kept), and what
+/// the Rust says to the next two calls.
+type Onward = (&'static str, Vec<Token>, (u32, usize), [&'static str; 2]);
+
+fn onward(d: &Dialect) -> Vec<Onward> {
+    let hash = |tokens: &[Token]| Token::End(Sum::Number(xxhash_rust::xxh3::xxh3_64(&image(d, tokens))));
+    let clear = || Token::Clear(2);
+    let zero = || Token::Bytes(vec![0]);
+    let end = || Token::End(Sum::Number(0));
+    let right = || hash(&[clear()]);
+    vec![
+        ("A1", vec![start(1), end()], (2, 26), ["none, valid 0, file 0", "none, valid 0, file 0"]),
+        (
+            "A2",
+            vec![start(1), clear(), end(), Token::End(Sum::OfNone)],
+            (4, 48),
+            ["batch seq 7 items 0 clears 1, valid 48, file 48", "none, valid 48, file 48"],
+        ),
+        ("A3", vec![start(0), clear(), right()], (3, 35), ["batch seq 7 items 0 clears 0, valid 35, file 35", "none, valid 35, file 35"]),
+        (
+            "A4",
+            vec![start(1), start(1), clear(), right()],
+            (1, 0),
+            ["batch seq 7 items 0 clears 1, valid 48, file 0", "none, valid 48, file 0"],
+        ),
+        (
+            "A5",
+            vec![start(1), start(1), clear(), right(), zero()],
+            (1, 0),
+            ["batch seq 7 items 0 clears 1, valid 48, file 0", "none, valid 48, file 48"],
+        ),
+        ("A6", vec![zero(), start(1), clear(), right()], (1, 0), ["batch seq 7 items 0 clears 1, valid 36, file 0", "none, valid 36, file 0"]),
+        ("A7", vec![end(), start(1), clear(), right()], (1, 0), ["batch seq 7 items 0 clears 1, valid 48, file 0", "none, valid 48, file 0"]),
+        ("A8", vec![start(1), zero(), clear(), right()], (1, 0), ["batch seq 7 items 0 clears 1, valid 36, file 0", "none, valid 36, file 0"]),
+        ("A9", vec![clear(), start(1), clear(), right()], (1, 0), ["outcome 4, valid 0, file 0", "none, valid 0, file 0"]),
+        (
+            "A10",
+            vec![clear(), start(1), clear(), hash(&[clear(), clear()])],
+            (1, 0),
+            ["batch seq 7 items 0 clears 1, valid 44, file 0", "none, valid 44, file 0"],
+        ),
+    ]
+}
+
+/// Their images.
+pub fn onward_images(d: &Dialect) -> Vec<Vec<u8>> {
+    onward(d).iter().map(|o| image(d, &o.1)).collect()
+}
+
+fn held(name: &str, so: bool) {
+    if !so {
+        println!("{name}: NOT as docs/DIFFERENCES.md lists it");
+        std::process::exit(1);
+    }
+    println!("{name}: as listed");
+}
+
+/// The library answers the same outcome again: Ours::read asks twice.
+fn called_on(rust: &mut Fjall, library: &mut Ours) {
+    for (name, tokens, (outcome, kept), says) in onward(&rust.dialect()) {
+        let bytes = image(&rust.dialect(), &tokens);
+        let reading = rust.read(&bytes);
+        let alike = reading == library.read(&bytes) && (reading.outcome, reading.kept) == (outcome, kept);
+        held(name, alike && rust.again(&bytes, 2) == says);
+    }
+}
+
+fn item(key: &[u8]) -> Item {
+    Item { keyspace: 2, kind: Kind::Value, key: key.to_vec(), value: b"xy".to_vec() }
+}
+
+fn panics(f: impl FnOnce()) -> bool {
+    catch_unwind(AssertUnwindSafe(f)).is_err()
+}
+
+fn writer(rust: &mut Fjall) {
+    let counted = |w: answers::Written| (w.counts[0], w.bytes[1..5].to_vec());
+    held("W1", counted(rust.write_counted(7, &[item(b"a")], 2)) == (50, vec![2, 0, 0, 0]));
+    held("W2", counted(rust.write_counted(7, &[item(b"a")], 1 << 32)) == (50, vec![0, 0, 0, 0]));
+    let raw = rust.write(&[Call::Raw { seqno: 7, item: item(&[b'k'; 65_536]) }]);
+    let cut = raw.bytes[24..26] == [0, 0] && raw.bytes.len() == 13 + 21 + 65_536 + 2 + 13;
+    held("W3", cut && rust.read(&raw.bytes).outcome == 1);
+    let refused = [vec![], vec![b'k'; 65_536]].iter().all(|key| panics(|| drop(rust.write(&[Call::Batch { seqno: 7, items: vec![item(key)] }]))));
+    held("W4", refused);
+    held("W5", rust.fresh() == (64 * 1024 * 1024, true));
+}
+
+/// L1: a buffer that is too long, of zeros that are never touched.
+fn limits(library: &Ours) {
+    let d = ours::flat(library.dialect());
+    let zeros = vec![0u8; 1 << 32];
+    let over = ours::step(&zeros, ours::BEGIN, d).number == 21 && ours::decode(&zeros, 0, d).number == 21;
+    let most = &zeros[..(1 << 32) - 1];
+    let step = ours::step(most, ours::BEGIN, d);
+    held("L1", over && step.number == 0 && step.outcome == 1 && ours::decode(most, 0, d).number == 31);
+}
+
+pub fn run() {
+    let mut rust = Fjall::new().expect("a file in memory");
+    let mut library = Ours::new(rust.dialect());
+    called_on(&mut rust, &mut library);
+    writer(&mut rust);
+    limits(&library);
+}
