@@ -11,7 +11,7 @@ for edit in crates/*/must-fail/*.edit; do
     label=$(basename "$edit" .edit)
     log=target/must-fail/$crate/$label/.log
     seen=$((seen + 1))
-    first=$(grep -m1 ': error' "$log" 2>/dev/null)
+    first=$(grep -m1 -e ': error' -e 'it is not proved that' "$log" 2>/dev/null)
     case $first in
     '') echo "$edit: no error in its log" ;;
     *'has no `Need-'* | *'not in scope'*) echo "$edit: refused for its shape: $first" ;;

@@ -1,19 +1,18 @@
 -- The entries of an accepted batch stand one behind another between its Start and its End. Assumes nothing.
-use Prim.Native.Nat.{ℕ, zero, suc, _+_, _-_, _≤_, _<_}
+use Prim.Native.Nat.{ℕ, zero, suc, _+_, _≤_}
 use mathlib.Core.Path.{_≡_, refl, sym, ap, _∙_}
 use mathlib.Core.Bool.{Bool, true, false}
 use mathlib.Core.List.{List, [], _∷_, _++_, append-assoc, append-nil}
-use native.Mathlib.Omega.{arith}
 use lib.ListN.{length}
 use lib.Dec.{eqb}
-use Rattle.plan.specs.Plan.{Plan, Res, ok, stop, bind, runAt, no-stop}
+use Rattle.plan.specs.Plan.{Res, ok, stop, bind, runAt, no-stop}
 use Rattle.plan.specs.Place.{cont, at-bind}
 use Rattle.plan.specs.Ends.{within}
 use Rattle.dialect.specs.declared.Dialect.{Dialect}
 use Rattle.dialect.specs.Dialect.{trailer}
-use Rattle.entry.specs.Entry.{Put, item, clear, Entry, start, body, end, Stop, entry, hashed}
+use Rattle.entry.specs.Entry.{Put, Entry, start, body, end, Stop, entry, hashed}
 use Rattle.entry.proofs.Exact.{exact-of}
-use Rattle.reader.specs.Batch.{Batch, batch, checked, judge, openBatch, batchPlan}
+use Rattle.reader.specs.Batch.{batch, checked, judge, openBatch, batchPlan}
 
 -- ps, from `at` up to `stop`
 unfoldable pub Body : Dialect → List ℕ → ℕ → List Put → ℕ → Type 0

@@ -7,6 +7,7 @@ ghost use Rattle.number.specs.Number.{times, le};
 ghost use Rattle.xxh3.specs.Xxh3.{prime64-1, avalanche, avalancheXXH64, xxh3-64-empty, xxh3-64-1to3, mixed4to8, xxh3-64-4to8, xxh3-64-9to16, mixStep, xxh3-64-17to128, chunks, xxh3-64-129to240, halves, lane, accumulate, scrambled, roundScramble, initialAcc, merged, finalMerge, xxh3-64-large, hash};
 ghost use Rattle.xxh3.specs.Stripes.{blockEnd, stripes};
 ghost use Rattle.xxh3.specs.Hashed.{numberOf, tooLong, hashed};
+use number::LIMIT;
 use number::add64;
 use number::fold64;
 use number::mul64;
@@ -516,7 +517,7 @@ pub fn hash_of(k: &[u8], s: &[u8]) -> u64
 pub fn xxh3_64(s: &[u8]) -> Hashed
     ensures { λ r. ⌜ (r ≡ hashed (now (s .entry))) × (numberOf r ≡ tooLong (length (now (s .entry)))) ⌝ }
 {
-    if 4294967295 < s.len() {
+    if LIMIT < s.len() as u64 {
         return Hashed::Refused(21);
     }
     Hashed::Sum(hash_of(&SECRET, s))

@@ -1,4 +1,5 @@
 -- `stream::absorb` meets its contract. Assumes nothing.
+use Rattle.number.specs.Limit.{limit}
 use Prim.Native.Nat.{_+_, _<_, _≤_}
 use lib.ListN.{length}
 use mathlib.Core.Path.{ap}
@@ -18,15 +19,15 @@ returns : tie.Need-returns
 unfolding absorbed
 returns c =
     let a = c .before .before .args in
-    let q : 4294967295 < a .h .total + length (a .piece .now) = omega arith in
-    rw (lt-leb (a .h .total + length (a .piece .now)) 4294967295 q)
+    let q : limit < a .h .total + length (a .piece .now) = omega arith in
+    rw (lt-leb (a .h .total + length (a .piece .now)) limit q)
 
 returns-2 : tie.Need-returns-2
 unfolding absorbed
 returns-2 c =
     let a = c .before .before .before .args in
-    let q : 4294967295 < a .h .total + length (a .piece .now) = omega arith in
-    rw (lt-leb (a .h .total + length (a .piece .now)) 4294967295 q)
+    let q : limit < a .h .total + length (a .piece .now) = omega arith in
+    rw (lt-leb (a .h .total + length (a .piece .now)) limit q)
 
 slice-aggregate-absorb-with : tie.Need-slice-aggregate-absorb-with
 slice-aggregate-absorb-with c = search needs
@@ -38,8 +39,8 @@ returns-3 : tie.Need-returns-3
 unfolding absorbed defaultSecret
 returns-3 c =
     let a = c .before .before .before .before .before .args in
-    let q : a .h .total + length (a .piece .now) ≤ 4294967295 = omega arith in
-    rw (le-leb (a .h .total + length (a .piece .now)) 4294967295 q) (ap (λ (g : Hasher). record { number = 0; state = g }) (c .absorb-with .ensures))
+    let q : a .h .total + length (a .piece .now) ≤ limit = omega arith in
+    rw (le-leb (a .h .total + length (a .piece .now)) limit q) (ap (λ (g : Hasher). record { number = 0; state = g }) (c .absorb-with .ensures))
 
 pub absorb-spec : {M : Type 1} → statement M
 absorb-spec =

@@ -1,0 +1,6 @@
+// Lists a journal of the dialect TEST.
+use dialect::Dialect;
+
+fn main() {
+    dumping::dump(Dialect::TEST);
+}

@@ -1,0 +1,27 @@
+// What the dump programs share: a journal from standard input, listed on standard output.
+// Public: dump.
+use dialect::Dialect;
+use libc::STDIN_FILENO;
+use libc::STDOUT_FILENO;
+use listing::Listed;
+use listing::list;
+
+fn print_refused(number: u32) {
+    io::write_all(STDOUT_FILENO, b"refused ");
+    io::print_decimal(STDOUT_FILENO, number as u64);
+    io::write_all(STDOUT_FILENO, b"\n");
+}
+
+// Reads up to one byte more than may be listed, so that a longer journal is refused; the buffer has room for any listing.
+pub fn dump(d: Dialect) {
+    let mut image = [0u8; 65537];
+    let n = io::read_full(STDIN_FILENO, &mut image);
+    let mut out = [0u8; 262272];
+    let listed = list(&image[..n], d, &mut out);
+    match listed {
+        Listed::Wrote(bytes) => {
+            io::write_all(STDOUT_FILENO, &out[..bytes]);
+        }
+        Listed::Refused(number) => print_refused(number),
+    }
+}

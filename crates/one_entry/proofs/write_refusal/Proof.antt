@@ -1,0 +1,62 @@
+use Rattle.writer.specs.Writing.{noRoom, writeRefusal}
+use native.Mathlib.Omega.{arith}
+use Prim.Native.Nat.{_+_}
+use mathlib.Core.Path.{_≡_}
+use borrow.Author.Needs.{needs}
+use Rattle.one_entry.proofs.write_refusal.Statement.{statement}
+use Rattle.one_entry.proofs.write_refusal.Tie as tie
+use Rattle.one_entry.proofs.write_refusal.Reads as reads
+use Rattle.one_entry.proofs.write_refusal.Lts as lts
+use Rattle.refusal.proofs.first.Reads as first-reads
+use Rattle.refusal.proofs.lacks.Reads as lacks-reads
+use Rattle.refusal.proofs.when.Reads as when-reads
+use Rattle.writer.proofs.shared_refusal.Reads as shared-refusal-reads
+
+shared-refusal-requires : tie.Need-shared-refusal-requires
+shared-refusal-requires c κs = search needs
+
+when-requires : tie.Need-when-requires
+when-requires c κs = search needs
+
+when-requires-2 : tie.Need-when-requires-2
+when-requires-2 c κs = search needs
+
+add-lacks : tie.Need-add-lacks
+add-lacks c = search needs
+
+lacks-requires : tie.Need-lacks-requires
+lacks-requires c κs = search needs
+
+when-requires-3 : tie.Need-when-requires-3
+when-requires-3 c κs = search needs
+
+first-requires : tie.Need-first-requires
+first-requires c κs = search needs
+
+first-requires-2 : tie.Need-first-requires-2
+first-requires-2 c κs = search needs
+
+first-requires-3 : tie.Need-first-requires-3
+first-requires-3 c κs = search needs
+
+returns : tie.Need-returns
+unfolding writeRefusal noRoom
+returns c =
+    let a = c .before .before .before .before .before .before .before .before .args in
+    let e : 22 + a .fixed + a .d .length + a .key + a .value ≡ 22 + a .d .length + (a .fixed + a .key + a .value) = omega arith in
+    cc e
+
+pub write-refusal-spec : {M : Type 1} → statement M
+write-refusal-spec =
+    tie.close
+    (tie.spec
+    shared-refusal-requires
+    when-requires
+    when-requires-2
+    add-lacks
+    lacks-requires
+    when-requires-3
+    first-requires
+    first-requires-2
+    first-requires-3
+    returns)

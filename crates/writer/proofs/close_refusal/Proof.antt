@@ -1,0 +1,58 @@
+use Rattle.writer.specs.Writing.{noRoom, closeRefusal}
+use native.Mathlib.Omega.{arith}
+use Prim.Native.Nat.{_+_}
+use mathlib.Core.Path.{_≡_}
+use borrow.Author.Needs.{needs}
+use Rattle.writer.proofs.close_refusal.Statement.{statement}
+use Rattle.writer.proofs.close_refusal.Tie as tie
+use Rattle.writer.proofs.close_refusal.Reads as reads
+use Rattle.writer.proofs.close_refusal.Lts as lts
+use Rattle.refusal.proofs.first.Reads as first-reads
+use Rattle.refusal.proofs.lacks.Reads as lacks-reads
+use Rattle.refusal.proofs.when.Reads as when-reads
+use Rattle.writer.proofs.shared_refusal.Reads as shared-refusal-reads
+
+shared-refusal-requires : tie.Need-shared-refusal-requires
+shared-refusal-requires c κs = search needs
+
+when-requires : tie.Need-when-requires
+when-requires c κs = search needs
+
+when-requires-2 : tie.Need-when-requires-2
+when-requires-2 c κs = search needs
+
+lacks-requires : tie.Need-lacks-requires
+lacks-requires c κs = search needs
+
+when-requires-3 : tie.Need-when-requires-3
+when-requires-3 c κs = search needs
+
+first-requires : tie.Need-first-requires
+first-requires c κs = search needs
+
+first-requires-2 : tie.Need-first-requires-2
+first-requires-2 c κs = search needs
+
+first-requires-3 : tie.Need-first-requires-3
+first-requires-3 c κs = search needs
+
+returns : tie.Need-returns
+unfolding closeRefusal noRoom
+returns c =
+    let a = c .before .before .before .before .before .before .before .before .before .before .args in
+    let e : 9 + a .d .length + 0 + 0 ≡ 9 + a .d .length = omega arith in
+    cc e
+
+pub close-refusal-spec : {M : Type 1} → statement M
+close-refusal-spec =
+    tie.close
+    (tie.spec
+    shared-refusal-requires
+    when-requires
+    when-requires-2
+    lacks-requires
+    when-requires-3
+    first-requires
+    first-requires-2
+    first-requires-3
+    returns)

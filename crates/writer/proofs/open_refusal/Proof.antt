@@ -1,0 +1,57 @@
+use Rattle.writer.specs.Writing.{openRefusal}
+use borrow.Author.Needs.{needs}
+use Rattle.writer.proofs.open_refusal.Statement.{statement}
+use Rattle.writer.proofs.open_refusal.Tie as tie
+use Rattle.writer.proofs.open_refusal.Reads as reads
+use Rattle.writer.proofs.open_refusal.Lts as lts
+use Rattle.refusal.proofs.above_limit.Reads as above-limit-reads
+use Rattle.refusal.proofs.first.Reads as first-reads
+use Rattle.refusal.proofs.when.Reads as when-reads
+use Rattle.writer.proofs.no_room_to_open.Reads as no-room-to-open-reads
+use Rattle.writer.proofs.shared_refusal.Reads as shared-refusal-reads
+
+shared-refusal-requires : tie.Need-shared-refusal-requires
+shared-refusal-requires c κs = search needs
+
+when-requires : tie.Need-when-requires
+when-requires c κs = search needs
+
+above-limit-requires : tie.Need-above-limit-requires
+above-limit-requires c κs = search needs
+
+when-requires-2 : tie.Need-when-requires-2
+when-requires-2 c κs = search needs
+
+no-room-to-open-requires : tie.Need-no-room-to-open-requires
+no-room-to-open-requires c κs = search needs
+
+when-requires-3 : tie.Need-when-requires-3
+when-requires-3 c κs = search needs
+
+first-requires : tie.Need-first-requires
+first-requires c κs = search needs
+
+first-requires-2 : tie.Need-first-requires-2
+first-requires-2 c κs = search needs
+
+first-requires-3 : tie.Need-first-requires-3
+first-requires-3 c κs = search needs
+
+returns : tie.Need-returns
+unfolding openRefusal
+returns c = cc
+
+pub open-refusal-spec : {M : Type 1} → statement M
+open-refusal-spec =
+    tie.close
+    (tie.spec
+    shared-refusal-requires
+    when-requires
+    above-limit-requires
+    when-requires-2
+    no-room-to-open-requires
+    when-requires-3
+    first-requires
+    first-requires-2
+    first-requires-3
+    returns)

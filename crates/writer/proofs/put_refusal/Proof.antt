@@ -1,0 +1,70 @@
+use Rattle.writer.specs.Writing.{noRoom, putRefusal}
+use native.Mathlib.Omega.{arith}
+use Prim.Native.Nat.{_+_}
+use mathlib.Core.Path.{_≡_}
+use borrow.Author.Needs.{needs}
+use Rattle.writer.proofs.put_refusal.Statement.{statement}
+use Rattle.writer.proofs.put_refusal.Tie as tie
+use Rattle.writer.proofs.put_refusal.Reads as reads
+use Rattle.writer.proofs.put_refusal.Lts as lts
+use Rattle.refusal.proofs.first.Reads as first-reads
+use Rattle.refusal.proofs.lacks.Reads as lacks-reads
+use Rattle.refusal.proofs.when.Reads as when-reads
+use Rattle.writer.proofs.shared_refusal.Reads as shared-refusal-reads
+
+shared-refusal-requires : tie.Need-shared-refusal-requires
+shared-refusal-requires c κs = search needs
+
+when-requires : tie.Need-when-requires
+when-requires c κs = search needs
+
+when-requires-2 : tie.Need-when-requires-2
+when-requires-2 c κs = search needs
+
+when-requires-3 : tie.Need-when-requires-3
+when-requires-3 c κs = search needs
+
+add-lacks : tie.Need-add-lacks
+add-lacks c = search needs
+
+lacks-requires : tie.Need-lacks-requires
+lacks-requires c κs = search needs
+
+when-requires-4 : tie.Need-when-requires-4
+when-requires-4 c κs = search needs
+
+first-requires : tie.Need-first-requires
+first-requires c κs = search needs
+
+first-requires-2 : tie.Need-first-requires-2
+first-requires-2 c κs = search needs
+
+first-requires-3 : tie.Need-first-requires-3
+first-requires-3 c κs = search needs
+
+first-requires-4 : tie.Need-first-requires-4
+first-requires-4 c κs = search needs
+
+returns : tie.Need-returns
+unfolding putRefusal noRoom
+returns c =
+    let a = c .before .before .before .before .before .before .before .before .before .before .before .before .args in
+    let e : a .fixed + 9 + a .d .length + a .key + a .value ≡ a .fixed + a .key + a .value + (9 + a .d .length) = omega arith in
+    cc e
+
+pub put-refusal-spec : {M : Type 1} → statement M
+put-refusal-spec =
+    tie.close
+    (tie.spec
+    shared-refusal-requires
+    when-requires
+    when-requires-2
+    when-requires-3
+    add-lacks
+    lacks-requires
+    when-requires-4
+    first-requires
+    first-requires-2
+    first-requires-3
+    first-requires-4
+    returns)
