@@ -1,5 +1,11 @@
-//! The proved library, as its static library exports it. Nothing checks these declarations against the Rattle source: they stand here
+//! The proved library, as include/pierloft.h declares it. Nothing checks these declarations against the Rattle source: they stand here
 //! alone.
+
+#[repr(C)]
+struct Hash {
+    number: u32,
+    hash: u64,
+}
 
 #[repr(C)]
 #[derive(Clone, Copy)]
@@ -10,41 +16,43 @@ pub struct Hasher {
 }
 
 #[repr(C)]
-#[derive(Clone, Copy)]
 struct Absorbed {
     number: u32,
     state: Hasher,
 }
 
 extern "C" {
-    fn pl_xxh3_64(s: *const u8, len: usize, sum: &mut u64) -> u32;
-    fn pl_hasher_new() -> Hasher;
-    fn pl_hasher_absorb(h: Hasher, piece: *const u8, len: usize) -> Absorbed;
-    fn pl_hasher_finish(h: Hasher, sum: &mut u64) -> u32;
+    fn pierloft_xxh3_64(bytes: *const u8, length: usize) -> Hash;
+    fn pierloft_hasher_new() -> Hasher;
+    fn pierloft_absorb(state: Hasher, piece: *const u8, length: usize) -> Absorbed;
+    fn pierloft_absorb_into(state: &mut Hasher, piece: *const u8, length: usize) -> u32;
+    fn pierloft_finish(state: Hasher) -> Hash;
 }
 
 pub fn xxh3_64(s: &[u8]) -> u64 {
-    let mut sum = 0;
-    let number = unsafe { pl_xxh3_64(s.as_ptr(), s.len(), &mut sum) };
-    assert_eq!(number, 0);
-    sum
+    let answer = unsafe { pierloft_xxh3_64(s.as_ptr(), s.len()) };
+    assert_eq!(answer.number, 0);
+    answer.hash
 }
 
 impl Hasher {
     pub fn new() -> Hasher {
-        unsafe { pl_hasher_new() }
+        unsafe { pierloft_hasher_new() }
     }
 
-    pub fn absorb(&mut self, piece: &[u8]) {
-        let next = unsafe { pl_hasher_absorb(*self, piece.as_ptr(), piece.len()) };
-        assert_eq!(next.number, 0);
-        *self = next.state;
+    pub fn absorb(self, piece: &[u8]) -> Hasher {
+        let answer = unsafe { pierloft_absorb(self, piece.as_ptr(), piece.len()) };
+        assert_eq!(answer.number, 0);
+        answer.state
     }
 
-    pub fn finish(&self) -> u64 {
-        let mut sum = 0;
-        let number = unsafe { pl_hasher_finish(*self, &mut sum) };
-        assert_eq!(number, 0);
-        sum
+    pub fn absorb_into(&mut self, piece: &[u8]) {
+        assert_eq!(unsafe { pierloft_absorb_into(self, piece.as_ptr(), piece.len()) }, 0);
+    }
+
+    pub fn finish(self) -> u64 {
+        let answer = unsafe { pierloft_finish(self) };
+        assert_eq!(answer.number, 0);
+        answer.hash
     }
 }

@@ -7,11 +7,13 @@ mod plain;
 use std::hint::black_box;
 use std::time::Instant;
 
-const PIECE: usize = 256;
+fn by_value(s: &[u8], piece: usize) -> u64 {
+    s.chunks(piece).fold(ffi::Hasher::new(), |h, p| h.absorb(p)).finish()
+}
 
-fn ours_in_pieces(s: &[u8], piece: usize) -> u64 {
+fn lent(s: &[u8], piece: usize) -> u64 {
     let mut h = ffi::Hasher::new();
-    s.chunks(piece).for_each(|p| h.absorb(p));
+    s.chunks(piece).for_each(|p| h.absorb_into(p));
     h.finish()
 }
 
@@ -27,7 +29,8 @@ fn compare(input: &[u8]) {
         let hash = plain::xxh3_64(s);
         assert_eq!(ffi::xxh3_64(s), hash, "one shot, {n} bytes");
         for piece in [1, 21, 64, 255, 256, 1000] {
-            assert_eq!(ours_in_pieces(s, piece), hash, "ours, {n} bytes by {piece}");
+            assert_eq!(by_value(s, piece), hash, "by value, {n} bytes by {piece}");
+            assert_eq!(lent(s, piece), hash, "lent, {n} bytes by {piece}");
             assert_eq!(plain_in_pieces(s, piece), hash, "plain, {n} bytes by {piece}");
         }
     }
@@ -66,8 +69,10 @@ fn main() {
     for n in [64, 200, 1 << 10, 1 << 20] {
         line("one shot", &input[..n], &ffi::xxh3_64, &plain::xxh3_64);
     }
-    for n in [64, 1 << 10, 1 << 20] {
-        line("streamed by 256", &input[..n], &|s| ours_in_pieces(s, PIECE), &|s| plain_in_pieces(s, PIECE));
+    for (name, ours) in [("by value", by_value as fn(&[u8], usize) -> u64), ("lent", lent)] {
+        for (n, piece) in [(64, 256), (1 << 10, 256), (1 << 20, 256), (1 << 20, 65536)] {
+            let name = format!("{name}, by {piece}");
+            line(&name, &input[..n], &|s| ours(s, piece), &|s| plain_in_pieces(s, piece));
+        }
     }
-    line("streamed by 65,536", &input, &|s| ours_in_pieces(s, 65536), &|s| plain_in_pieces(s, 65536));
 }
