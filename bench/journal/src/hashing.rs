@@ -1,6 +1,6 @@
 //! XXH3-64 beside plain scalar Rust and libxxhash.
 use crate::clock::race;
-use crate::line;
+use crate::{line, plain};
 use pierloft::{xxh3_64, Xxh3};
 use std::hint::black_box;
 

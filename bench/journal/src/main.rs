@@ -4,6 +4,8 @@ mod clock;
 mod hashing;
 mod heap;
 mod journal;
+#[path = "../../xxh3/src/plain.rs"]
+mod plain;
 
 /// A line of the table: how long ours takes beside theirs.
 pub fn line(what: &str, input: &str, beside: &str, ours: f64, theirs: f64, aim: &str) {
