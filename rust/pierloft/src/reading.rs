@@ -226,7 +226,16 @@ impl<'a> IntoIterator for &Batch<'a> {
     }
 }
 
-/// An entry of a batch. Its key and value are parts of the image and never copies.
+/// An entry of a batch. Its key and value are parts of the image and never copies, so the image cannot change while they are looked at:
+///
+/// ```compile_fail,E0502
+/// use pierloft::{batches, Dialect};
+///
+/// let mut image = vec![0; 53];
+/// let entries: Vec<_> = batches(&image, Dialect::TEST).flatten().collect();
+/// image[0] = 1; // the entries borrow the image
+/// drop(entries);
+/// ```
 #[derive(Clone, Copy, Debug, PartialEq, Eq, Hash)]
 pub enum Entry<'a> {
     /// A key was written or deleted.

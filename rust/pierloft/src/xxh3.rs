@@ -16,7 +16,7 @@ pub fn xxh3_64(bytes: &[u8]) -> Result<u64, Refusal> {
     Ok(answer.hash)
 }
 
-/// XXH3-64 by pieces. It holds 336 bytes and allocates nothing.
+/// XXH3-64 by pieces. It has 328 bytes and allocates nothing.
 ///
 /// ```
 /// use pierloft::{xxh3_64, Xxh3};

@@ -3,7 +3,7 @@ use pierloft::{xxh3_64, Refusal, Xxh3};
 
 fn input(length: usize) -> Vec<u8> {
     (0..length as u64)
-        .map(|i| (i * i ^ (i >> 3)) as u8)
+        .map(|i| ((i * i) ^ (i >> 3)) as u8)
         .collect()
 }
 

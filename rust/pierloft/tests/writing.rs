@@ -209,23 +209,23 @@ fn counts() {
 
 #[test]
 fn keys() {
-    let long = [7; 65536];
+    static LONG: [u8; 65536] = [7; 65536];
     assert_eq!(
         refused(90000, &inside, &|w| w.put_item(V, 1, b"", b"x")),
         Refusal::Key
     );
     assert_eq!(
-        refused(90000, &inside, &|w| w.put_item(V, 1, &long, b"x")),
+        refused(90000, &inside, &|w| w.put_item(V, 1, &LONG, b"x")),
         Refusal::Key
     );
     assert_eq!(
-        refused(90000, &outside, &|w| w.write_raw(1, V, 1, &long, b"x")),
+        refused(90000, &outside, &|w| w.write_raw(1, V, 1, &LONG, b"x")),
         Refusal::Key
     );
     let mut buffer = vec![0; 90000];
     let mut writer = Writer::new(&mut buffer, Dialect::TEST);
     assert_eq!(writer.write_raw(1, V, 1, b"", b"x"), Ok(48));
-    assert_eq!(writer.write_raw(2, V, 1, &long[1..], b"x"), Ok(65583));
+    assert_eq!(writer.write_raw(2, V, 1, &LONG[1..], b"x"), Ok(65583));
     assert_eq!(batches(writer.written(), Dialect::TEST).count(), 2);
 }
 
