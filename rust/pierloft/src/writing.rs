@@ -77,6 +77,7 @@ impl<'a> Writer<'a> {
     ///
     /// [`Refusal::TooLong`], [`Refusal::State`] (any call may answer these two), [`Refusal::Order`] inside a batch, [`Refusal::Count`],
     /// [`Refusal::NoRoom`] where the batch could not be closed even if it were empty.
+    #[inline]
     pub fn open(&mut self, count: u64, seqno: u64) -> Result<usize, Refusal> {
         let reply = ffi::open(self.place(), count, seqno);
         self.take(reply)
@@ -88,6 +89,7 @@ impl<'a> Writer<'a> {
     ///
     /// [`Refusal::Order`] outside a batch, [`Refusal::Counted`] where no more entry is to come, [`Refusal::Key`] for an empty key or one
     /// above 65,535 bytes, [`Refusal::NoRoom`] where it and the batch's end do not fit.
+    #[inline]
     pub fn put_item(
         &mut self,
         value_type: ValueType,
@@ -110,6 +112,7 @@ impl<'a> Writer<'a> {
     /// # Errors
     ///
     /// As [`put_item`](Writer::put_item), without [`Refusal::Key`].
+    #[inline]
     pub fn put_clear(&mut self, keyspace: u64) -> Result<usize, Refusal> {
         let reply = ffi::put_clear(self.place(), keyspace);
         self.take(reply)
@@ -120,6 +123,7 @@ impl<'a> Writer<'a> {
     /// # Errors
     ///
     /// [`Refusal::Order`] outside a batch, [`Refusal::Counted`] where entries are still to come.
+    #[inline]
     pub fn close(&mut self) -> Result<usize, Refusal> {
         let reply = ffi::close(self.place());
         self.take(reply)
@@ -130,6 +134,7 @@ impl<'a> Writer<'a> {
     /// # Errors
     ///
     /// [`Refusal::Order`] inside a batch, [`Refusal::Key`] for a key above 65,535 bytes, [`Refusal::NoRoom`].
+    #[inline]
     pub fn write_raw(
         &mut self,
         seqno: u64,
@@ -153,6 +158,7 @@ impl<'a> Writer<'a> {
     /// # Errors
     ///
     /// [`Refusal::Order`] inside a batch, [`Refusal::NoRoom`].
+    #[inline]
     pub fn write_clear(&mut self, seqno: u64, keyspace: u64) -> Result<usize, Refusal> {
         let reply = ffi::write_clear(self.place(), seqno, keyspace);
         self.take(reply)
