@@ -96,6 +96,10 @@ mod c {
     use super::*;
 
     extern "C" {
+        #[cfg(test)]
+        pub fn pierloft_shipped() -> FlatDialect;
+        #[cfg(test)]
+        pub fn pierloft_test() -> FlatDialect;
         pub fn pierloft_check(d: FlatDialect) -> u32;
         pub fn pierloft_decode(
             image: *const u8,
@@ -363,10 +367,18 @@ mod tests {
             .skip(1)
             .map(|rest| signature(rest.split(';').next().expect("its end")))
             .collect();
-        assert_eq!(ours.len(), 14);
+        assert_eq!(ours.len(), 16);
         for ours in ours {
             assert!(theirs.contains(&ours), "{ours:?} is not the library's");
         }
+    }
+
+    /// The constants of Rust are the library's own.
+    #[test]
+    fn dialects_are_the_librarys() {
+        let (shipped, test) = unsafe { (c::pierloft_shipped(), c::pierloft_test()) };
+        assert_eq!(crate::Dialect::SHIPPED.0, shipped);
+        assert_eq!(crate::Dialect::TEST.0, test);
     }
 
     #[test]
