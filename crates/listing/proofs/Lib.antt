@@ -2,6 +2,6 @@ pub mod Body
 pub mod Call
 pub mod Ends
 pub mod Entries
-pub mod Names
+pub mod Lines
 pub mod Sizes
 pub mod Steps
