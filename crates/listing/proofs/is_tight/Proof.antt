@@ -1,4 +1,4 @@
-use Rattle.listing.proofs.Names.{tight, tight-by}
+use Rattle.listing.proofs.Call.{tight, tight-by}
 use Rattle.listing.proofs.is_tight.Statement.{statement}
 use Rattle.listing.proofs.is_tight.Tie as tie
 use Rattle.listing.proofs.is_tight.Reads as reads

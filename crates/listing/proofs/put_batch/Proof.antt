@@ -1,7 +1,7 @@
 use lib.ListN.{length-append}
 use native.Mathlib.Omega.{arith}
 use Rattle.listing.proofs.Sizes.{batch-size}
-use Rattle.listing.proofs.Names.{batch-pieces}
+use Rattle.listing.proofs.Lines.{batch-pieces}
 use Rattle.text.specs.Written.{named, fits, room, then}
 use borrow.Author.Needs.{needs}
 use Rattle.listing.proofs.put_batch.Statement.{statement}

@@ -1,6 +1,6 @@
 use lib.ListN.{length}
 use mathlib.Core.Path.{sym, _∙_, ap}
-use Rattle.listing.proofs.Names.{clear-pieces}
+use Rattle.listing.proofs.Lines.{clear-pieces}
 use Rattle.listing.proofs.Sizes.{clear-size}
 use Rattle.text.specs.Written.{named, nothing}
 use native.Mathlib.Omega.{arith}

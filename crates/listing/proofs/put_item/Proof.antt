@@ -1,4 +1,4 @@
-use Rattle.listing.proofs.Names.{item-pieces}
+use Rattle.listing.proofs.Lines.{item-pieces}
 use Rattle.text.specs.Written.{room, then, named}
 use lib.ListN.{length-append}
 use native.Mathlib.Omega.{arith}

@@ -1,7 +1,7 @@
 use mathlib.Core.Path.{ap}
 use lib.ListN.{length}
 use native.Mathlib.Omega.{arith}
-use Rattle.listing.proofs.Names.{is-value, is-tombstone, is-weak, is-indirection, spaced}
+use Rattle.listing.proofs.Lines.{is-value, is-tombstone, is-weak, is-indirection, spaced}
 use Rattle.text.specs.Written.{named}
 use borrow.Author.Needs.{needs}
 use Rattle.listing.proofs.put_type.Statement.{statement}
