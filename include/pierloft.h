@@ -137,6 +137,49 @@ typedef struct {
 
 pierloft_entry pierloft_decode(const uint8_t *image, size_t length, size_t at, pierloft_dialect dialect);
 
+/* ---- writing */
+
+/* Each encoder fills the front of the part that it is lent with one entry and answers its length. An empty key is taken. A value type is
+ * one of the four; any other is PIERLOFT_VALUE_TYPE, judged before all else, here and in the writer's calls. */
+pierloft_count pierloft_encode_start(uint8_t *buffer, size_t length, pierloft_dialect dialect, uint32_t count, uint64_t seqno);
+pierloft_count pierloft_encode_item(uint8_t *buffer, size_t length, pierloft_dialect dialect, uint8_t value_type, uint64_t keyspace,
+                                    const uint8_t *key, size_t key_length, const uint8_t *value, size_t value_length);
+pierloft_count pierloft_encode_end(uint8_t *buffer, size_t length, pierloft_dialect dialect, uint64_t checksum);
+pierloft_count pierloft_encode_clear(uint8_t *buffer, size_t length, pierloft_dialect dialect, uint64_t keyspace);
+
+/* Where a writer stands in its buffer. It starts as {0, 0, 0, 0}; a later call is given the state that the one before it answered. `open` is
+ * 0 or not. */
+typedef struct {
+    size_t position;
+    size_t start; /* of the open batch */
+    uint32_t open;
+    uint64_t left; /* entries still to come */
+} pierloft_writer;
+
+/* With number 0, how many bytes were written at the position, and the state behind them. */
+typedef struct {
+    uint32_t number;
+    size_t bytes;
+    pierloft_writer writer;
+} pierloft_reply;
+
+/* A batch of so many entries. A count of 0 writes and opens nothing. */
+pierloft_reply pierloft_open(uint8_t *buffer, size_t length, pierloft_dialect dialect, pierloft_writer writer, uint64_t count,
+                             uint64_t seqno);
+pierloft_reply pierloft_put_item(uint8_t *buffer, size_t length, pierloft_dialect dialect, pierloft_writer writer, uint8_t value_type,
+                                 uint64_t keyspace, const uint8_t *key, size_t key_length, const uint8_t *value, size_t value_length);
+pierloft_reply pierloft_put_clear(uint8_t *buffer, size_t length, pierloft_dialect dialect, pierloft_writer writer, uint64_t keyspace);
+
+/* Ends the batch, with the checksum of the bytes that then stand between its Start and the position. */
+pierloft_reply pierloft_close(uint8_t *buffer, size_t length, pierloft_dialect dialect, pierloft_writer writer);
+
+/* A whole batch of one entry. An empty key is taken. */
+pierloft_reply pierloft_write_raw(uint8_t *buffer, size_t length, pierloft_dialect dialect, pierloft_writer writer, uint64_t seqno,
+                                  uint8_t value_type, uint64_t keyspace, const uint8_t *key, size_t key_length, const uint8_t *value,
+                                  size_t value_length);
+pierloft_reply pierloft_write_clear(uint8_t *buffer, size_t length, pierloft_dialect dialect, pierloft_writer writer, uint64_t seqno,
+                                    uint64_t keyspace);
+
 /* ---- XXH3-64, seed 0 and the default secret */
 
 /* A hash; or PIERLOFT_TOO_LONG or PIERLOFT_STATE. */

@@ -172,12 +172,93 @@ static void hashes(void)
     IS(h.number == PIERLOFT_STATE && h.hash == 0);
 }
 
+static int same_writer(pierloft_writer a, pierloft_writer b)
+{
+    return a.position == b.position && a.start == b.start && a.open == b.open && a.left == b.left;
+}
+
+static void encoders(void)
+{
+    uint8_t buffer[32];
+    pierloft_dialect d = pierloft_test();
+    pierloft_count c = pierloft_encode_start(buffer, 13, d, 1, 7);
+    IS(c.number == 0 && c.bytes == 13 && memcmp(buffer, journal, 13) == 0);
+    IS(pierloft_encode_start(buffer, 12, d, 1, 7).number == PIERLOFT_NO_ROOM);
+    c = pierloft_encode_item(buffer, 24, d, PIERLOFT_VALUE, 2, journal + 34, 1, journal + 35, 2);
+    IS(c.number == 0 && c.bytes == 24 && memcmp(buffer, journal + 13, 24) == 0);
+    c = pierloft_encode_item(buffer, 23, d, PIERLOFT_VALUE, 2, journal + 34, 1, journal + 35, 2);
+    IS(c.number == PIERLOFT_NO_ROOM && c.bytes == 0);
+    c = pierloft_encode_item(buffer, 23, d, 4, 2, journal + 34, 1, journal + 35, 2);
+    IS(c.number == PIERLOFT_VALUE_TYPE && c.bytes == 0 && memcmp(buffer, journal + 13, 24) == 0);
+    for (uint8_t t = 0; t < 4; t++) {
+        d.indirection = 9;
+        IS(pierloft_encode_item(buffer, 21, d, t, 0, NULL, 0, NULL, 0).bytes == 21 && buffer[1] == (t == 3 ? 9 : t));
+    }
+    d = pierloft_test();
+    c = pierloft_encode_end(buffer, 13, d, UINT64_C(0xdd51b14eba25ad58));
+    IS(c.number == 0 && c.bytes == 13 && memcmp(buffer, journal + 37, 13) == 0);
+    c = pierloft_encode_clear(buffer, 9, d, UINT64_C(0x0102030405060708));
+    IS(c.number == 0 && c.bytes == 9 && buffer[0] == 4 && buffer[1] == 8 && buffer[8] == 1);
+    d.length = 9;
+    c = pierloft_encode_clear(buffer, 9, d, 0);
+    IS(c.number == PIERLOFT_DIALECT && c.bytes == 0 && buffer[1] == 8);
+}
+
+static void writing(void)
+{
+    uint8_t buffer[150], twin[150];
+    static const uint8_t key[65536] = {'a'};
+    pierloft_dialect d = pierloft_test();
+    const pierloft_writer empty = {0, 0, 0, 0}, opened = {13, 0, 1, 1}, full = {37, 0, 1, 0}, closed = {50, 0, 0, 0};
+    memset(buffer, 0xaa, sizeof buffer);
+    memcpy(twin, buffer, sizeof twin);
+    pierloft_reply r = pierloft_open(buffer, sizeof buffer, d, empty, 1, 7);
+    IS(r.number == 0 && r.bytes == 13 && same_writer(r.writer, opened));
+    r = pierloft_put_item(buffer, sizeof buffer, d, r.writer, PIERLOFT_VALUE, 2, journal + 34, 1, journal + 35, 2);
+    IS(r.number == 0 && r.bytes == 24 && same_writer(r.writer, full));
+    r = pierloft_close(buffer, sizeof buffer, d, r.writer);
+    IS(r.number == 0 && r.bytes == 13 && same_writer(r.writer, closed));
+    IS(memcmp(buffer, journal, 50) == 0 && memcmp(buffer + 50, twin + 50, sizeof buffer - 50) == 0);
+    r = pierloft_write_raw(buffer, 100, d, r.writer, 7, PIERLOFT_VALUE, 2, journal + 34, 1, journal + 35, 2);
+    IS(r.number == 0 && r.bytes == 50 && r.writer.position == 100 && memcmp(buffer + 50, journal, 50) == 0);
+    r = pierloft_write_clear(buffer, 135, d, r.writer, 8, 3);
+    IS(r.number == 0 && r.bytes == 35 && r.writer.position == 135 && buffer[113] == 4 && buffer[114] == 3);
+    IS(pierloft_open(buffer, 0, d, empty, 0, 7).number == 0);
+    /* refused: the number, the state as it came, no byte */
+    memcpy(twin, buffer, sizeof twin);
+    pierloft_writer odd = {136, 5, 3, 9};
+    r = pierloft_put_clear(buffer, 135, d, odd, 3);
+    IS(r.number == PIERLOFT_STATE && r.bytes == 0 && same_writer(r.writer, odd));
+    r = pierloft_put_clear(buffer, 150, d, odd, 3);
+    IS(r.number == PIERLOFT_NO_ROOM && same_writer(r.writer, odd));
+    IS(pierloft_open(buffer, 150, d, odd, 1, 7).number == PIERLOFT_ORDER);
+    IS(pierloft_close(buffer, 150, d, odd).number == PIERLOFT_COUNTED);
+    IS(pierloft_put_clear(buffer, 150, d, full, 3).number == PIERLOFT_COUNTED);
+    IS(pierloft_close(buffer, 49, d, full).number == PIERLOFT_NO_ROOM);
+    IS(pierloft_close(buffer, 150, d, empty).number == PIERLOFT_ORDER);
+    IS(pierloft_open(buffer, 150, d, empty, (uint64_t)1 << 32, 7).number == PIERLOFT_COUNT);
+    IS(pierloft_open(buffer, 25, d, empty, 1, 7).number == PIERLOFT_NO_ROOM);
+    IS(pierloft_put_item(buffer, 150, d, opened, PIERLOFT_VALUE, 2, NULL, 0, NULL, 0).number == PIERLOFT_KEY);
+    IS(pierloft_put_item(buffer, 150, d, opened, PIERLOFT_VALUE, 2, key, 65536, NULL, 0).number == PIERLOFT_KEY);
+    IS(pierloft_put_item(buffer, 150, d, opened, PIERLOFT_VALUE, 2, key, 65535, NULL, 0).number == PIERLOFT_NO_ROOM);
+    r = pierloft_put_item(buffer, 150, d, odd, 4, 2, key, 1, NULL, 0);
+    IS(r.number == PIERLOFT_VALUE_TYPE && r.bytes == 0 && same_writer(r.writer, odd));
+    IS(pierloft_write_raw(buffer, 150, d, empty, 7, 255, 2, key, 1, NULL, 0).number == PIERLOFT_VALUE_TYPE);
+    IS(pierloft_write_raw(buffer, 49, d, empty, 7, PIERLOFT_VALUE, 2, key, 1, key, 2).number == PIERLOFT_NO_ROOM);
+    IS(pierloft_write_clear(buffer, 150, d, opened, 7, 2).number == PIERLOFT_ORDER);
+    d.length = 0;
+    IS(pierloft_write_clear(buffer, 150, d, empty, 7, 2).number == PIERLOFT_DIALECT);
+    IS(memcmp(buffer, twin, sizeof buffer) == 0);
+}
+
 int main(void)
 {
     dialects();
     entries();
     reading();
     hashes();
+    encoders();
+    writing();
     printf("%d checks, %d failed\n", checks, failures);
     return failures != 0;
 }

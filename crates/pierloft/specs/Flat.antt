@@ -1,8 +1,14 @@
 -- The library's values as the numbers that cross to C.
 use Prim.Native.Nat.{ℕ}
 use mathlib.Core.Bool.{Bool, cond, not}
-use lib.Dec.{eqb}
+use mathlib.Core.List.{List}
+use lib.Dec.{eqb, leb}
 use Rattle.dialect.specs.declared.Dialect.{Dialect}
+use Rattle.dialect.specs.declared.ValueType.{ValueType}
+use Rattle.dialect.specs.declared.ValueType.the-variants.{Value, Tombstone, WeakTombstone, Indirection}
+use Rattle.encode.specs.declared.Answer.{Answer as Written}
+use Rattle.encode.specs.declared.Answer.the-variants as written
+use Rattle.encode.specs.Encoding.{Encoded}
 use Rattle.entry.specs.declared.Decoded.{Decoded}
 use Rattle.entry.specs.declared.Decoded.the-variants as decoded
 use Rattle.reader.specs.declared.Answer.{Answer}
@@ -13,6 +19,9 @@ use Rattle.reader.specs.declared.Reader.{Reader}
 use Rattle.reader.specs.declared.Stepped.{Stepped}
 use Rattle.stream.specs.declared.Absorbed.{Absorbed}
 use Rattle.stream.specs.declared.Hasher.{Hasher}
+use Rattle.writer.specs.declared.WriterState.{WriterState}
+use Rattle.writer.specs.declared.Reply.{Reply}
+use Rattle.writer.specs.Writing.{Outcome}
 use Rattle.xxh3.specs.declared.Hashed.{Hashed}
 use Rattle.xxh3.specs.declared.Hashed.the-variants as hashed
 use Rattle.pierloft.specs.declared.FlatAbsorbed.{FlatAbsorbed}
@@ -22,7 +31,9 @@ use Rattle.pierloft.specs.declared.FlatEntry.{FlatEntry}
 use Rattle.pierloft.specs.declared.FlatHash.{FlatHash}
 use Rattle.pierloft.specs.declared.FlatHasher.{FlatHasher}
 use Rattle.pierloft.specs.declared.FlatReader.{FlatReader}
+use Rattle.pierloft.specs.declared.FlatReply.{FlatReply}
 use Rattle.pierloft.specs.declared.FlatStepped.{FlatStepped}
+use Rattle.pierloft.specs.declared.FlatWriter.{FlatWriter}
 
 -- ---- dialects
 
@@ -112,3 +123,37 @@ flatHasher h = record { acc = h .acc; hold = h .hold; total = h .total }
 
 abbrev pub flatAbsorbed : Absorbed → FlatAbsorbed
 flatAbsorbed a = record { number = a .number; state = flatHasher (a .state) }
+
+-- ---- writing
+
+-- of a number that is at most 3
+unfoldable pub typeOf : ℕ → ValueType
+typeOf n = cond (eqb n 0) Value (cond (eqb n 1) Tombstone (cond (eqb n 2) WeakTombstone Indirection))
+
+abbrev pub flatWritten : Written → FlatCount
+flatWritten (written.Wrote n) = record { number = 0; bytes = n }
+flatWritten (written.Refused n) = record { number = n; bytes = 0 }
+
+abbrev pub writerOf : FlatWriter → WriterState
+writerOf w = record { position = w .position; start = w .start; «open» = not (eqb (w .«open») 0); left = w .left }
+
+abbrev pub flatWriter : WriterState → FlatWriter
+flatWriter s = record { position = s .position; start = s .start; «open» = cond (s .«open») 1 0; left = s .left }
+
+-- a call's answer, between the state that came and the one that goes; a refusal gives the first back as it came
+abbrev pub flatAnswered : FlatWriter → FlatWriter → Written → FlatReply
+flatAnswered came goes (written.Wrote n) = record { number = 0; bytes = n; writer = goes }
+flatAnswered came goes (written.Refused n) = record { number = n; bytes = 0; writer = came }
+
+abbrev pub flatReply : FlatWriter → Reply → FlatReply
+flatReply came r = flatAnswered came (flatWriter (r .state)) (r .answer)
+
+-- a value type that is none of the four is 32, before anything else is looked at: nothing is written
+unfoldable pub typedCount : ℕ → Encoded → FlatCount
+typedCount type e = cond (leb type 3) (flatWritten (e .answer)) (record { number = 32; bytes = 0 })
+
+unfoldable pub typedReply : ℕ → FlatWriter → Outcome → FlatReply
+typedReply type came o = cond (leb type 3) (flatReply came (o .reply)) (record { number = 32; bytes = 0; writer = came })
+
+unfoldable pub typedBytes : ℕ → List ℕ → List ℕ → List ℕ
+typedBytes type before after = cond (leb type 3) after before

@@ -2,16 +2,20 @@
 // over the calls of the other crates and no more: enums become numbers, and a flag is 0 or not. Public: the functions pierloft_*.
 ghost use mathlib.Core.Path.{_≡_};
 ghost use mathlib.Core.Bool.{cond, not};
-ghost use Rattle.dialect.specs.Dialect.{good, SHIPPED as shippedDialect, TEST as testDialect};
+ghost use Rattle.dialect.specs.Dialect.{good, codeOf, SHIPPED as shippedDialect, TEST as testDialect};
 ghost use Rattle.refusal.specs.Refusal.{whenOf};
+ghost use Rattle.entry.specs.Entry.{start, item, clear, body, end};
 ghost use Rattle.entry.specs.Decoded.{decoded};
+ghost use Rattle.encode.specs.Encoding.{encoded};
 ghost use Rattle.xxh3.specs.Xxh3.{defaultSecret, hash};
 ghost use Rattle.xxh3.specs.Hashed.{hashed};
 ghost use Rattle.stream.specs.Stream.{fresh};
 ghost use Rattle.stream.specs.Calls.{absorbed, finished};
 ghost use Rattle.reader.specs.Reading.{stepped, keptOf};
-ghost use Rattle.pierloft.specs.Flat.{dialectOf, flatDialect, typeNumber, noEntry, flatStart, flatItem, flatEnd, flatClear, flatEntry, noBatch, readerOf, flatReader, flatStepped, flatKeep, flatHash, hasherOf, flatHasher, flatAbsorbed};
+ghost use Rattle.writer.specs.Writing.{openCall, putCall, closeCall, writeCall};
+ghost use Rattle.pierloft.specs.Flat.{dialectOf, flatDialect, typeNumber, noEntry, flatStart, flatItem, flatEnd, flatClear, flatEntry, noBatch, readerOf, flatReader, flatStepped, flatKeep, flatHash, hasherOf, flatHasher, flatAbsorbed, typeOf, flatWritten, writerOf, flatWriter, flatReply, typedCount, typedReply, typedBytes};
 use dialect::Dialect;
+use dialect::ValueType;
 use entry::Decoded;
 use reader::Answer;
 use reader::Keep;
@@ -19,6 +23,8 @@ use reader::Reader;
 use reader::Stepped;
 use stream::Absorbed;
 use stream::Hasher;
+use writer::Reply;
+use writer::WriterState;
 use xxh3::Hashed;
 
 #[repr(C)]
@@ -93,20 +99,35 @@ pub struct FlatAbsorbed {
     pub state: FlatHasher,
 }
 
+#[repr(C)]
+pub struct FlatWriter {
+    pub position: usize,
+    pub start: usize,
+    pub open: u32,
+    pub left: u64,
+}
+
+#[repr(C)]
+pub struct FlatReply {
+    pub number: u32,
+    pub bytes: usize,
+    pub writer: FlatWriter,
+}
+
 // ---- dialects
 
-fn dialect_of(d: FlatDialect) -> Dialect
-    ensures { λ r. ⌜ r ≡ dialectOf d ⌝ }
+fn dialect_of(flat: FlatDialect) -> Dialect
+    ensures { λ r. ⌜ r ≡ dialectOf flat ⌝ }
 {
-    let magic = d.magic;
+    let magic = flat.magic;
     Dialect {
         magic,
-        length: d.length,
-        value: d.value,
-        tombstone: d.tombstone,
-        weak: d.weak,
-        indirection: d.indirection,
-        none: d.none,
+        length: flat.length,
+        value: flat.value,
+        tombstone: flat.tombstone,
+        weak: flat.weak,
+        indirection: flat.indirection,
+        none: flat.none,
     }
 }
 
@@ -311,13 +332,13 @@ fn flag(x: bool) -> u32
     x as u32
 }
 
-fn reader_of(r: FlatReader) -> Reader
-    ensures { λ s. ⌜ s ≡ readerOf r ⌝ }
+fn reader_of(flat: FlatReader) -> Reader
+    ensures { λ s. ⌜ s ≡ readerOf flat ⌝ }
 {
     Reader {
-        position: r.position,
-        ended: r.ended != 0,
-        outcome: r.outcome,
+        position: flat.position,
+        ended: flat.ended != 0,
+        outcome: flat.outcome,
     }
 }
 
@@ -412,15 +433,15 @@ fn flat_hash(h: Hashed) -> FlatHash
     }
 }
 
-fn hasher_of(h: FlatHasher) -> Hasher
-    ensures { λ r. ⌜ r ≡ hasherOf h ⌝ }
+fn hasher_of(flat: FlatHasher) -> Hasher
+    ensures { λ r. ⌜ r ≡ hasherOf flat ⌝ }
 {
-    let acc = h.acc;
-    let hold = h.hold;
+    let acc = flat.acc;
+    let hold = flat.hold;
     Hasher {
         acc,
         hold,
-        total: h.total,
+        total: flat.total,
     }
 }
 
@@ -482,4 +503,244 @@ pub extern "C" fn pierloft_absorb_into(state: &mut FlatHasher, piece: &[u8]) -> 
     let t = pierloft_absorb(*state, piece);
     *state = t.state;
     t.number
+}
+
+// ---- entries written
+
+fn type_of(number: u8) -> ValueType
+    ensures { λ r. ⌜ r ≡ typeOf number ⌝ }
+{
+    if number == 0 {
+        return ValueType::Value;
+    }
+    if number == 1 {
+        return ValueType::Tombstone;
+    }
+    if number == 2 {
+        return ValueType::WeakTombstone;
+    }
+    ValueType::Indirection
+}
+
+fn flat_written(a: encode::Answer) -> FlatCount
+    ensures { λ r. ⌜ r ≡ flatWritten a ⌝ }
+{
+    match a {
+        encode::Answer::Wrote(bytes) => FlatCount { number: 0, bytes },
+        encode::Answer::Refused(number) => FlatCount { number, bytes: 0 },
+    }
+}
+
+#[no_mangle]
+pub extern "C" fn pierloft_encode_start(
+    buf: &mut [u8],
+    d: FlatDialect,
+    count: u32,
+    seqno: u64,
+) -> FlatCount
+    ensures { λ r. ⌜ (r ≡ flatWritten (encoded (dialectOf d) (start count seqno) (now (buf .entry)) .answer)) × (now (buf .exit) ≡ encoded (dialectOf d) (start count seqno) (now (buf .entry)) .buffer) ⌝ }
+{
+    flat_written(encode::encode_start(buf, dialect_of(d), count, seqno))
+}
+
+#[no_mangle]
+pub extern "C" fn pierloft_encode_item(
+    buf: &mut [u8],
+    d: FlatDialect,
+    value_type: u8,
+    keyspace: u64,
+    key: &[u8],
+    value: &[u8],
+) -> FlatCount
+    ensures { λ r. ⌜ (r ≡ typedCount «value_type» (encoded (dialectOf d) (body (item (codeOf (dialectOf d) (typeOf «value_type»)) keyspace (now (key .entry)) (now (value .entry)))) (now (buf .entry)))) × (now (buf .exit) ≡ typedBytes «value_type» (now (buf .entry)) (encoded (dialectOf d) (body (item (codeOf (dialectOf d) (typeOf «value_type»)) keyspace (now (key .entry)) (now (value .entry)))) (now (buf .entry)) .buffer)) ⌝ }
+{
+    if 3 < value_type {
+        return FlatCount {
+            number: 32,
+            bytes: 0,
+        };
+    }
+    let kind = type_of(value_type);
+    flat_written(encode::encode_item(buf, dialect_of(d), kind, keyspace, key, value))
+}
+
+#[no_mangle]
+pub extern "C" fn pierloft_encode_end(buf: &mut [u8], d: FlatDialect, checksum: u64) -> FlatCount
+    ensures { λ r. ⌜ (r ≡ flatWritten (encoded (dialectOf d) (end checksum) (now (buf .entry)) .answer)) × (now (buf .exit) ≡ encoded (dialectOf d) (end checksum) (now (buf .entry)) .buffer) ⌝ }
+{
+    flat_written(encode::encode_end(buf, dialect_of(d), checksum))
+}
+
+#[no_mangle]
+pub extern "C" fn pierloft_encode_clear(buf: &mut [u8], d: FlatDialect, keyspace: u64) -> FlatCount
+    ensures { λ r. ⌜ (r ≡ flatWritten (encoded (dialectOf d) (body (clear keyspace)) (now (buf .entry)) .answer)) × (now (buf .exit) ≡ encoded (dialectOf d) (body (clear keyspace)) (now (buf .entry)) .buffer) ⌝ }
+{
+    flat_written(encode::encode_clear(buf, dialect_of(d), keyspace))
+}
+
+// ---- the writer
+
+fn writer_of(flat: FlatWriter) -> WriterState
+    ensures { λ r. ⌜ r ≡ writerOf flat ⌝ }
+{
+    WriterState {
+        position: flat.position,
+        start: flat.start,
+        open: flat.open != 0,
+        left: flat.left,
+    }
+}
+
+fn flat_writer(s: WriterState) -> FlatWriter
+    ensures { λ r. ⌜ r ≡ flatWriter s ⌝ }
+{
+    FlatWriter {
+        position: s.position,
+        start: s.start,
+        open: flag(s.open),
+        left: s.left,
+    }
+}
+
+fn flat_reply(came: FlatWriter, r: Reply) -> FlatReply
+    ensures { λ x. ⌜ x ≡ flatReply came r ⌝ }
+{
+    let answer = r.answer;
+    let state = r.state;
+    match answer {
+        encode::Answer::Wrote(bytes) => FlatReply {
+            number: 0,
+            bytes,
+            writer: flat_writer(state),
+        },
+        encode::Answer::Refused(number) => FlatReply {
+            number,
+            bytes: 0,
+            writer: came,
+        },
+    }
+}
+
+#[no_mangle]
+pub extern "C" fn pierloft_open(
+    buf: &mut [u8],
+    d: FlatDialect,
+    writer: FlatWriter,
+    count: u64,
+    seqno: u64,
+) -> FlatReply
+    ensures { λ r. ⌜ (r ≡ flatReply writer (openCall (dialectOf d) (now (buf .entry)) (writerOf writer) count seqno .reply)) × (now (buf .exit) ≡ openCall (dialectOf d) (now (buf .entry)) (writerOf writer) count seqno .bytes) ⌝ }
+{
+    flat_reply(
+        writer,
+        writer::open(buf, dialect_of(d), writer_of(writer), count, seqno),
+    )
+}
+
+#[no_mangle]
+pub extern "C" fn pierloft_put_item(
+    buf: &mut [u8],
+    d: FlatDialect,
+    writer: FlatWriter,
+    value_type: u8,
+    keyspace: u64,
+    key: &[u8],
+    value: &[u8],
+) -> FlatReply
+    ensures { λ r. ⌜ (r ≡ typedReply «value_type» writer (putCall (dialectOf d) (now (buf .entry)) (writerOf writer) (item (codeOf (dialectOf d) (typeOf «value_type»)) keyspace (now (key .entry)) (now (value .entry))))) × (now (buf .exit) ≡ typedBytes «value_type» (now (buf .entry)) (putCall (dialectOf d) (now (buf .entry)) (writerOf writer) (item (codeOf (dialectOf d) (typeOf «value_type»)) keyspace (now (key .entry)) (now (value .entry))) .bytes)) ⌝ }
+{
+    if 3 < value_type {
+        return FlatReply {
+            number: 32,
+            bytes: 0,
+            writer,
+        };
+    }
+    let kind = type_of(value_type);
+    flat_reply(
+        writer,
+        writer::put_item(
+            buf,
+            dialect_of(d),
+            writer_of(writer),
+            kind,
+            keyspace,
+            key,
+            value,
+        ),
+    )
+}
+
+#[no_mangle]
+pub extern "C" fn pierloft_put_clear(
+    buf: &mut [u8],
+    d: FlatDialect,
+    writer: FlatWriter,
+    keyspace: u64,
+) -> FlatReply
+    ensures { λ r. ⌜ (r ≡ flatReply writer (putCall (dialectOf d) (now (buf .entry)) (writerOf writer) (clear keyspace) .reply)) × (now (buf .exit) ≡ putCall (dialectOf d) (now (buf .entry)) (writerOf writer) (clear keyspace) .bytes) ⌝ }
+{
+    flat_reply(
+        writer,
+        writer::put_clear(buf, dialect_of(d), writer_of(writer), keyspace),
+    )
+}
+
+#[no_mangle]
+pub extern "C" fn pierloft_close(buf: &mut [u8], d: FlatDialect, writer: FlatWriter) -> FlatReply
+    ensures { λ r. ⌜ (r ≡ flatReply writer (closeCall (dialectOf d) (now (buf .entry)) (writerOf writer) .reply)) × (now (buf .exit) ≡ closeCall (dialectOf d) (now (buf .entry)) (writerOf writer) .bytes) ⌝ }
+{
+    flat_reply(writer, writer::close(buf, dialect_of(d), writer_of(writer)))
+}
+
+#[no_mangle]
+pub extern "C" fn pierloft_write_raw(
+    buf: &mut [u8],
+    d: FlatDialect,
+    writer: FlatWriter,
+    seqno: u64,
+    value_type: u8,
+    keyspace: u64,
+    key: &[u8],
+    value: &[u8],
+) -> FlatReply
+    ensures { λ r. ⌜ (r ≡ typedReply «value_type» writer (writeCall (dialectOf d) (now (buf .entry)) (writerOf writer) seqno (item (codeOf (dialectOf d) (typeOf «value_type»)) keyspace (now (key .entry)) (now (value .entry))))) × (now (buf .exit) ≡ typedBytes «value_type» (now (buf .entry)) (writeCall (dialectOf d) (now (buf .entry)) (writerOf writer) seqno (item (codeOf (dialectOf d) (typeOf «value_type»)) keyspace (now (key .entry)) (now (value .entry))) .bytes)) ⌝ }
+{
+    if 3 < value_type {
+        return FlatReply {
+            number: 32,
+            bytes: 0,
+            writer,
+        };
+    }
+    let kind = type_of(value_type);
+    flat_reply(
+        writer,
+        one_entry::write_raw(
+            buf,
+            dialect_of(d),
+            writer_of(writer),
+            seqno,
+            kind,
+            keyspace,
+            key,
+            value,
+        ),
+    )
+}
+
+#[no_mangle]
+pub extern "C" fn pierloft_write_clear(
+    buf: &mut [u8],
+    d: FlatDialect,
+    writer: FlatWriter,
+    seqno: u64,
+    keyspace: u64,
+) -> FlatReply
+    ensures { λ r. ⌜ (r ≡ flatReply writer (writeCall (dialectOf d) (now (buf .entry)) (writerOf writer) seqno (clear keyspace) .reply)) × (now (buf .exit) ≡ writeCall (dialectOf d) (now (buf .entry)) (writerOf writer) seqno (clear keyspace) .bytes) ⌝ }
+{
+    flat_reply(
+        writer,
+        one_entry::write_clear(buf, dialect_of(d), writer_of(writer), seqno, keyspace),
+    )
 }

@@ -2,15 +2,17 @@
 //!   0 an image, and 1 a list of entries from which an image with true checksums is made: read by the library and by the Rust;
 //!   2 and 3 a dialect and a state, made up, and an image or a list: a step, an entry and what to keep, held to the plain reading of
 //!     document 01, and to the Rust where the dialect is one of its four;
-//!   4 bytes and where they are cut: the hash in one go and by pieces, held to the crate that fjall uses; then a state made up.
+//!   4 bytes and where they are cut: the hash in one go and by pieces, held to the crate that fjall uses; then a state made up;
+//!   5 a dialect, a writer's state, a buffer and calls, all made up: every answer and every byte, held to the plain document 01;
+//!   6 a script for fjall's writer: bytes and counts of both sides, and both read both back.
 use crate::check::{difference, Tally};
 use crate::make::{self, Sum, Token};
-use crate::ours::{self, FlatHash, FlatHasher, FlatReader};
+use crate::ours::{self, Alone, FlatHash, FlatHasher, FlatReader, FlatWriter, Op, Put};
 use crate::{plain, Pair};
-use answers::{hex, Dialect, Judge};
+use answers::{hex, Call, Dialect, Item, Judge, KINDS as KINDS_OF_VALUE};
 use std::fmt::Debug;
 
-pub const KINDS: u8 = 5;
+pub const KINDS: u8 = 7;
 
 /// The bytes of a case, taken from the front; 0 where there are no more.
 struct Input<'a>(&'a [u8]);
@@ -191,6 +193,100 @@ fn made_up_hasher(state: FlatHasher, piece: &[u8]) -> Said {
     Ok(())
 }
 
+fn put<'a>(i: &mut Input<'a>) -> Put<'a> {
+    if i.byte() % 3 == 0 {
+        return Put::Clear { keyspace: i.number(8) };
+    }
+    let (value_type, keyspace, k, v) = (i.byte() % 5, i.number(2), i.byte() as usize % 8, i.byte() as usize);
+    let key = if k == 7 { &LONG_KEY[..65_534 + v % 4] } else { i.take(k) };
+    Put::Item { value_type, keyspace, key, value: i.take(v) }
+}
+
+static LONG_KEY: [u8; 65_540] = [b'k'; 65_540];
+
+fn op<'a>(i: &mut Input<'a>) -> Op<'a> {
+    match i.byte() % 8 {
+        0 => Op::Open { count: u64::from(i.byte() % 4), seqno: i.number(2) },
+        1 => Op::Open { count: i.near(u32::MAX as usize) as u64, seqno: i.number(8) },
+        2..=4 => Op::Put(put(i)),
+        5 => Op::Close,
+        _ => Op::Write { seqno: i.number(2), put: put(i) },
+    }
+}
+
+fn alone<'a>(i: &mut Input<'a>) -> Alone<'a> {
+    match i.byte() % 4 {
+        0 => Alone::Start { count: i.number(4) as u32, seqno: i.number(8) },
+        1 => Alone::End { checksum: i.number(8) },
+        _ => Alone::Put(put(i)),
+    }
+}
+
+/// Calls from a made-up state, each given what the one before it returned; or with the state made up anew.
+fn writer(four: &[Pair], i: &mut Input) -> Said {
+    let d = ours::flat(dialect(i, four));
+    let length = match i.byte() {
+        b @ 0..=199 => b as usize,
+        b => (b as usize - 199) * 1500,
+    };
+    let mut buf: Vec<u8> = (0..length).map(|k| (k * 7 + 1) as u8).collect();
+    let mut w = made_up_writer(i, length);
+    while !i.0.is_empty() {
+        let mut twin = buf.clone();
+        if i.byte() % 8 == 0 {
+            let entry = alone(i);
+            same("encode", ours::encode(&mut buf, d, entry), plain::encode(&mut twin, &d, &entry))?;
+        } else {
+            let op = op(i);
+            let reply = ours::call(&mut buf, d, w, op);
+            same("reply", reply, plain::call(&mut twin, &d, w, &op)).map_err(|e| format!("{op:?} on {length} bytes at {w:?}\n{e}"))?;
+            w = reply.writer;
+        }
+        same("buffer", &buf, &twin)?;
+        if i.byte() % 16 == 0 {
+            w = made_up_writer(i, length);
+        }
+    }
+    Ok(())
+}
+
+fn made_up_writer(i: &mut Input, length: usize) -> FlatWriter {
+    let position = place(i, length);
+    match i.byte() % 4 {
+        0 => FlatWriter { position, start: i.near(position), open: i.byte().into(), left: i.near(u32::MAX as usize) as u64 },
+        1 => FlatWriter { position, start: position.wrapping_sub(13 + i.byte() as usize % 3), open: 1, left: u64::from(i.byte() % 3) },
+        2 => FlatWriter { position, start: 0, open: 1, left: u64::from(i.byte() % 3) },
+        _ => FlatWriter { position, start: 0, open: 0, left: 0 },
+    }
+}
+
+fn item(i: &mut Input, least: usize) -> Item {
+    let (kind, keyspace, k, v) = (KINDS_OF_VALUE[i.byte() as usize % 4], i.number(2), i.byte() as usize % 16, i.number(2) as usize % 3000);
+    let mut key = i.take(k).to_vec();
+    key.resize(key.len().max(least), b'k');
+    Item { keyspace, kind, key, value: i.take(v).to_vec() }
+}
+
+fn script(four: &mut [Pair], i: &mut Input) -> Said {
+    let pair = &mut four[i.byte() as usize % 4];
+    let mut calls = vec![];
+    while !i.0.is_empty() && calls.len() < 12 {
+        let seqno = i.number(2);
+        calls.push(match i.byte() % 4 {
+            0 | 1 => Call::Batch { seqno, items: (0..i.byte() % 5).map(|_| item(i, 1)).collect() },
+            2 => Call::Raw { seqno, item: item(i, 0) },
+            _ => Call::Clear { seqno, keyspace: i.number(8) },
+        });
+    }
+    let rust = pair.rust.write(&calls);
+    let ours = pair.ours.write(&calls);
+    same("the bytes and counts written", &ours, &rust)?;
+    read(pair, &rust.bytes)?;
+    let wrote = calls.iter().filter(|c| !matches!(c, Call::Batch { items, .. } if items.is_empty())).count();
+    let back = pair.ours.read(&rust.bytes);
+    same("read back", (back.outcome, back.batches.len(), back.valid), (0, wrote, rust.bytes.len()))
+}
+
 pub fn case(four: &mut [Pair], bytes: &[u8]) -> Said {
     let i = &mut Input(bytes);
     match i.byte() % KINDS {
@@ -205,6 +301,8 @@ pub fn case(four: &mut [Pair], bytes: &[u8]) -> Said {
             read(&mut four[n], &image)
         }
         4 => hash(i),
+        5 => writer(four, i),
+        6 => script(four, i),
         kind => made_up(four, i, kind == 3),
     }
 }

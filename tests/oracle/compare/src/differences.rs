@@ -1,7 +1,7 @@
 //! The departures that docs/DIFFERENCES.md lists, under the names it gives them: each with its smallest input, both sides run and held
 //! to what is written there.
 use crate::make::{image, Sum, Token};
-use crate::ours::{self, Ours};
+use crate::ours::{self, FlatReply, FlatWriter, Op, Ours, Put};
 use answers::{Call, Dialect, Item, Judge, Kind};
 use fjall_test::Fjall;
 use std::panic::{catch_unwind, AssertUnwindSafe};
@@ -85,16 +85,55 @@ fn panics(f: impl FnOnce()) -> bool {
     catch_unwind(AssertUnwindSafe(f)).is_err()
 }
 
-fn writer(rust: &mut Fjall) {
+/// The library's number for a call on a fresh buffer of 100,000 bytes, or on the state that an open left.
+fn number(library: &Ours, opened: Option<u64>, op: Op) -> u32 {
+    let d = ours::flat(library.dialect());
+    let mut buf = vec![0; 100_000];
+    let mut w = FlatWriter { position: 0, start: 0, open: 0, left: 0 };
+    if let Some(count) = opened {
+        w = ours::call(&mut buf, d, w, Op::Open { count, seqno: 7 }).writer;
+    }
+    ours::call(&mut buf, d, w, op).number
+}
+
+fn put(key: &[u8]) -> Put<'_> {
+    Put::Item { value_type: 0, keyspace: 2, key, value: b"xy" }
+}
+
+fn writer(rust: &mut Fjall, library: &Ours) {
     let counted = |w: answers::Written| (w.counts[0], w.bytes[1..5].to_vec());
-    held("W1", counted(rust.write_counted(7, &[item(b"a")], 2)) == (50, vec![2, 0, 0, 0]));
-    held("W2", counted(rust.write_counted(7, &[item(b"a")], 1 << 32)) == (50, vec![0, 0, 0, 0]));
-    let raw = rust.write(&[Call::Raw { seqno: 7, item: item(&[b'k'; 65_536]) }]);
+    let long = [b'k'; 65_536];
+    let two = counted(rust.write_counted(7, &[item(b"a")], 2)) == (50, vec![2, 0, 0, 0]);
+    held("W1", two && number(library, Some(2), Op::Close) == 26);
+    let many = counted(rust.write_counted(7, &[item(b"a")], 1 << 32)) == (50, vec![0, 0, 0, 0]);
+    held("W2", many && number(library, None, Op::Open { count: 1 << 32, seqno: 7 }) == 23);
+    let raw = rust.write(&[Call::Raw { seqno: 7, item: item(&long) }]);
     let cut = raw.bytes[24..26] == [0, 0] && raw.bytes.len() == 13 + 21 + 65_536 + 2 + 13;
-    held("W3", cut && rust.read(&raw.bytes).outcome == 1);
-    let refused = [vec![], vec![b'k'; 65_536]].iter().all(|key| panics(|| drop(rust.write(&[Call::Batch { seqno: 7, items: vec![item(key)] }]))));
-    held("W4", refused);
+    held("W3", cut && rust.read(&raw.bytes).outcome == 1 && number(library, None, Op::Write { seqno: 7, put: put(&long) }) == 25);
+    let keys: [&[u8]; 2] = [&[], &long];
+    let refused = keys.iter().all(|key| {
+        panics(|| drop(rust.write(&[Call::Batch { seqno: 7, items: vec![item(key)] }]))) && number(library, Some(1), Op::Put(put(key))) == 25
+    });
+    held("W4", refused && number(library, None, Op::Write { seqno: 7, put: put(&[]) }) == 0);
     held("W5", rust.fresh() == (64 * 1024 * 1024, true));
+    let mut buf = vec![0; 49];
+    let w = FlatWriter { position: 0, start: 0, open: 0, left: 0 };
+    let reply = ours::call(&mut buf, ours::flat(library.dialect()), w, Op::Write { seqno: 7, put: put(b"a") });
+    held("W7", reply == FlatReply { number: 27, bytes: 0, writer: w } && buf == [0; 49]);
+}
+
+/// W6: a Clear and an Item in one batch, put here and read by both.
+fn mixed(rust: &mut Fjall, library: &mut Ours) {
+    let d = ours::flat(library.dialect());
+    let mut buf = vec![0; 13 + 24 + 9 + 13];
+    let mut w = FlatWriter { position: 0, start: 0, open: 0, left: 0 };
+    for op in [Op::Open { count: 2, seqno: 7 }, Op::Put(put(b"a")), Op::Put(Put::Clear { keyspace: 3 }), Op::Close] {
+        let reply = ours::call(&mut buf, d, w, op);
+        held("W6", reply.number == 0);
+        w = reply.writer;
+    }
+    let reading = rust.read(&buf);
+    held("W6", reading == library.read(&buf) && reading.outcome == 0 && reading.batches[0].entries.len() == 2);
 }
 
 /// L1: a buffer that is too long, of zeros that are never touched.
@@ -111,6 +150,7 @@ pub fn run() {
     let mut rust = Fjall::new().expect("a file in memory");
     let mut library = Ours::new(rust.dialect());
     called_on(&mut rust, &mut library);
-    writer(&mut rust);
+    writer(&mut rust, &library);
+    mixed(&mut rust, &mut library);
     limits(&library);
 }

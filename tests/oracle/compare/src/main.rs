@@ -101,10 +101,10 @@ fn made(pairs: &[Pair], r: &mut Random, kind: u8, number: u64) -> Vec<u8> {
         let head = 13 + r.below(9);
         bytes.extend(r.bytes(head));
     }
-    if kind % 2 == 0 {
+    if kind == 0 || kind == 2 {
         bytes.extend(make::random(r, &pairs[which].ours.dialect(), family));
     } else {
-        let list = r.below(200);
+        let list = r.below(if kind < 5 { 200 } else { 400 });
         bytes.extend(r.bytes(list));
     }
     bytes

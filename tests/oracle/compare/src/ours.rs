@@ -81,8 +81,27 @@ pub struct FlatAbsorbed {
     pub state: FlatHasher,
 }
 
+#[repr(C)]
+#[derive(Clone, Copy, Debug, PartialEq, Eq)]
+pub struct FlatWriter {
+    pub position: usize,
+    pub start: usize,
+    pub open: u32,
+    pub left: u64,
+}
+
+#[repr(C)]
+#[derive(Clone, Copy, Debug, PartialEq, Eq)]
+pub struct FlatReply {
+    pub number: u32,
+    pub bytes: usize,
+    pub writer: FlatWriter,
+}
+
 mod c {
-    use super::{FlatAbsorbed, FlatCount, FlatDialect, FlatEntry, FlatHash, FlatHasher, FlatReader, FlatStepped};
+    use super::{FlatAbsorbed, FlatCount, FlatDialect, FlatEntry, FlatHash, FlatHasher, FlatReader, FlatReply, FlatStepped, FlatWriter};
+    type Dialect = FlatDialect;
+    type Writer = FlatWriter;
 
     extern "C" {
         pub fn pierloft_decode(image: *const u8, length: usize, at: usize, dialect: FlatDialect) -> FlatEntry;
@@ -93,6 +112,49 @@ mod c {
         pub fn pierloft_absorb(state: FlatHasher, piece: *const u8, length: usize) -> FlatAbsorbed;
         pub fn pierloft_absorb_into(state: *mut FlatHasher, piece: *const u8, length: usize) -> u32;
         pub fn pierloft_finish(state: FlatHasher) -> FlatHash;
+        pub fn pierloft_encode_start(buf: *mut u8, length: usize, d: Dialect, count: u32, seqno: u64) -> FlatCount;
+        pub fn pierloft_encode_item(
+            buf: *mut u8,
+            length: usize,
+            d: Dialect,
+            value_type: u8,
+            keyspace: u64,
+            key: *const u8,
+            key_len: usize,
+            value: *const u8,
+            value_len: usize,
+        ) -> FlatCount;
+        pub fn pierloft_encode_end(buf: *mut u8, length: usize, d: Dialect, checksum: u64) -> FlatCount;
+        pub fn pierloft_encode_clear(buf: *mut u8, length: usize, d: Dialect, keyspace: u64) -> FlatCount;
+        pub fn pierloft_open(buf: *mut u8, length: usize, d: Dialect, w: Writer, count: u64, seqno: u64) -> FlatReply;
+        pub fn pierloft_put_item(
+            buf: *mut u8,
+            length: usize,
+            d: Dialect,
+            w: Writer,
+            value_type: u8,
+            keyspace: u64,
+            key: *const u8,
+            key_len: usize,
+            value: *const u8,
+            value_len: usize,
+        ) -> FlatReply;
+        pub fn pierloft_put_clear(buf: *mut u8, length: usize, d: Dialect, w: Writer, keyspace: u64) -> FlatReply;
+        pub fn pierloft_close(buf: *mut u8, length: usize, d: Dialect, w: Writer) -> FlatReply;
+        pub fn pierloft_write_raw(
+            buf: *mut u8,
+            length: usize,
+            d: Dialect,
+            w: Writer,
+            seqno: u64,
+            value_type: u8,
+            keyspace: u64,
+            key: *const u8,
+            key_len: usize,
+            value: *const u8,
+            value_len: usize,
+        ) -> FlatReply;
+        pub fn pierloft_write_clear(buf: *mut u8, length: usize, d: Dialect, w: Writer, seqno: u64, keyspace: u64) -> FlatReply;
     }
 }
 
@@ -127,6 +189,63 @@ pub fn absorb_into(state: &mut FlatHasher, piece: &[u8]) -> u32 {
 
 pub fn finish(state: FlatHasher) -> FlatHash {
     unsafe { c::pierloft_finish(state) }
+}
+
+/// An entry to encode, or to put.
+#[derive(Clone, Copy, Debug)]
+pub enum Put<'a> {
+    Item { value_type: u8, keyspace: u64, key: &'a [u8], value: &'a [u8] },
+    Clear { keyspace: u64 },
+}
+
+/// A call of the writer.
+#[derive(Clone, Copy, Debug)]
+pub enum Op<'a> {
+    Open { count: u64, seqno: u64 },
+    Put(Put<'a>),
+    Close,
+    Write { seqno: u64, put: Put<'a> },
+}
+
+// The buffer is lent for the call alone; it overlaps neither the key nor the value, which Rust's rules see to.
+pub fn call(buf: &mut [u8], d: FlatDialect, w: FlatWriter, op: Op) -> FlatReply {
+    let (b, n) = (buf.as_mut_ptr(), buf.len());
+    unsafe {
+        match op {
+            Op::Open { count, seqno } => c::pierloft_open(b, n, d, w, count, seqno),
+            Op::Put(Put::Item { value_type, keyspace, key, value }) => {
+                c::pierloft_put_item(b, n, d, w, value_type, keyspace, key.as_ptr(), key.len(), value.as_ptr(), value.len())
+            }
+            Op::Put(Put::Clear { keyspace }) => c::pierloft_put_clear(b, n, d, w, keyspace),
+            Op::Close => c::pierloft_close(b, n, d, w),
+            Op::Write { seqno, put: Put::Item { value_type, keyspace, key, value } } => {
+                c::pierloft_write_raw(b, n, d, w, seqno, value_type, keyspace, key.as_ptr(), key.len(), value.as_ptr(), value.len())
+            }
+            Op::Write { seqno, put: Put::Clear { keyspace } } => c::pierloft_write_clear(b, n, d, w, seqno, keyspace),
+        }
+    }
+}
+
+/// An entry to encode alone.
+#[derive(Clone, Copy, Debug)]
+pub enum Alone<'a> {
+    Start { count: u32, seqno: u64 },
+    Put(Put<'a>),
+    End { checksum: u64 },
+}
+
+pub fn encode(buf: &mut [u8], d: FlatDialect, entry: Alone) -> FlatCount {
+    let (b, n) = (buf.as_mut_ptr(), buf.len());
+    unsafe {
+        match entry {
+            Alone::Start { count, seqno } => c::pierloft_encode_start(b, n, d, count, seqno),
+            Alone::Put(Put::Item { value_type, keyspace, key, value }) => {
+                c::pierloft_encode_item(b, n, d, value_type, keyspace, key.as_ptr(), key.len(), value.as_ptr(), value.len())
+            }
+            Alone::Put(Put::Clear { keyspace }) => c::pierloft_encode_clear(b, n, d, keyspace),
+            Alone::End { checksum } => c::pierloft_encode_end(b, n, d, checksum),
+        }
+    }
 }
 
 pub fn flat(d: Dialect) -> FlatDialect {
@@ -236,7 +355,80 @@ impl Judge for Ours {
         }
     }
 
-    fn write(&mut self, _calls: &[Call]) -> Written {
-        unimplemented!("the writer's calls are not exported yet")
+    /// A buffer that has just enough room: with one byte less the last call that writes is refused, and writes nothing.
+    fn write(&mut self, calls: &[Call]) -> Written {
+        let room = calls.iter().map(|c| self.room(c)).sum();
+        let mut bytes = vec![0xaa; room];
+        let counts = self.run(&mut bytes, calls, true);
+        let (last, before) = match calls.iter().rposition(|c| self.room(c) > 0) {
+            Some(i) => (&calls[i..=i], &calls[..i]),
+            None => (&calls[..0], calls),
+        };
+        if let Some(less) = room.checked_sub(1) {
+            let mut short = vec![0xaa; less];
+            self.run(&mut short, before, true);
+            let written = short.clone();
+            self.run(&mut short, &[before, last].concat(), false);
+            let stood = room - self.room(&last[0]);
+            assert!(short[..stood] == written[..stood] && short[stood..].len() + 1 == self.room(&last[0]));
+        }
+        Written { counts, bytes }
+    }
+}
+
+const EMPTY: FlatWriter = FlatWriter { position: 0, start: 0, open: 0, left: 0 };
+
+fn put(i: &Item) -> Put<'_> {
+    Put::Item { value_type: i.kind as u8, keyspace: i.keyspace, key: &i.key, value: &i.value }
+}
+
+impl Ours {
+    /// How many bytes a call writes.
+    fn room(&self, call: &Call) -> usize {
+        let item = |i: &Item| 21 + i.key.len() + i.value.len();
+        let ends = 22 + self.dialect.length;
+        match call {
+            Call::Batch { items, .. } if items.is_empty() => 0,
+            Call::Batch { items, .. } => ends + items.iter().map(item).sum::<usize>(),
+            Call::Raw { item: i, .. } => ends + item(i),
+            Call::Clear { .. } => ends + 9,
+        }
+    }
+
+    /// The calls that a call of fjall's writer comes to.
+    fn ops<'a>(&self, call: &'a Call) -> Vec<Op<'a>> {
+        match call {
+            Call::Batch { seqno, items } => {
+                let mut ops = vec![Op::Open { count: items.len() as u64, seqno: *seqno }];
+                ops.extend(items.iter().map(|i| Op::Put(put(i))));
+                if !items.is_empty() {
+                    ops.push(Op::Close);
+                }
+                ops
+            }
+            Call::Raw { seqno, item } => vec![Op::Write { seqno: *seqno, put: put(item) }],
+            Call::Clear { seqno, keyspace } => vec![Op::Write { seqno: *seqno, put: Put::Clear { keyspace: *keyspace } }],
+        }
+    }
+
+    /// Runs them; `room`: none may be refused, else the last call's must be, by 27.
+    fn run(&self, buf: &mut [u8], calls: &[Call], room: bool) -> Vec<usize> {
+        let (mut w, mut counts) = (EMPTY, vec![]);
+        for (i, one) in calls.iter().enumerate() {
+            let mut wrote = 0;
+            for op in self.ops(one) {
+                let before = (!room && i + 1 == calls.len()).then(|| buf.to_vec());
+                let reply = call(buf, self.flat, w, op);
+                if reply.number != 0 {
+                    assert!(reply.number == 27 && reply.bytes == 0 && reply.writer == w && before.as_deref() == Some(&*buf));
+                    return counts;
+                }
+                wrote += reply.bytes;
+                w = reply.writer;
+            }
+            counts.push(wrote);
+        }
+        assert!(room && w == FlatWriter { position: counts.iter().sum(), ..EMPTY });
+        counts
     }
 }

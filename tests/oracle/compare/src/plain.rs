@@ -1,6 +1,6 @@
 //! Document 01 once more, as plain Rust over any dialect and any state, for what fjall has no answer to: other dialects, made-up
 //! states, refusals, the writer's calls one by one. Where fjall has one, this is compared with it too.
-use crate::ours::{FlatCount, FlatDialect, FlatEntry, FlatReader, FlatStepped, NOTHING};
+use crate::ours::{Alone, FlatCount, FlatDialect, FlatEntry, FlatReader, FlatReply, FlatStepped, FlatWriter, Op, Put, NOTHING};
 use xxhash_rust::xxh3::xxh3_64;
 
 const LIMIT: usize = 0xffff_ffff;
@@ -156,4 +156,122 @@ pub fn kept(length: usize, reader: FlatReader) -> FlatCount {
     let torn = reader.ended != 0 && reader.outcome == 1;
     let bytes = if torn { reader.position } else { length };
     FlatCount { number, bytes: if number == 0 { bytes } else { 0 } }
+}
+
+fn put_bytes(d: &FlatDialect, put: &Put) -> Vec<u8> {
+    let mut bytes = vec![];
+    match put {
+        Put::Clear { keyspace } => {
+            bytes.push(4);
+            bytes.extend(keyspace.to_le_bytes());
+        }
+        Put::Item { value_type, keyspace, key, value } => {
+            bytes.extend([2, codes(d)[*value_type as usize], d.none]);
+            bytes.extend(keyspace.to_le_bytes());
+            bytes.extend((key.len() as u16).to_le_bytes());
+            bytes.extend((value.len() as u32).to_le_bytes());
+            bytes.extend((value.len() as u32).to_le_bytes());
+            bytes.extend(*key);
+            bytes.extend(*value);
+        }
+    }
+    bytes
+}
+
+fn start_bytes(count: u32, seqno: u64) -> Vec<u8> {
+    [&[1][..], &count.to_le_bytes(), &seqno.to_le_bytes()].concat()
+}
+
+fn end_bytes(d: &FlatDialect, checksum: u64) -> Vec<u8> {
+    [&[3][..], &checksum.to_le_bytes(), &d.magic[..d.length.min(8)]].concat()
+}
+
+/// Whether a value type is one of the four: the library's own rule for its callers, 32 before all else.
+fn typed(put: &Put) -> bool {
+    !matches!(put, Put::Item { value_type, .. } if *value_type > 3)
+}
+
+fn key_len(put: &Put) -> Option<usize> {
+    match put {
+        Put::Item { key, .. } => Some(key.len()),
+        Put::Clear { .. } => None,
+    }
+}
+
+pub fn encode(buf: &mut [u8], d: &FlatDialect, entry: &Alone) -> FlatCount {
+    let refused = |number| FlatCount { number, bytes: 0 };
+    let (bytes, key) = match entry {
+        Alone::Put(p) if !typed(p) => return refused(32),
+        Alone::Put(p) => (put_bytes(d, p), key_len(p)),
+        Alone::Start { count, seqno } => (start_bytes(*count, *seqno), None),
+        Alone::End { checksum } => (end_bytes(d, *checksum), None),
+    };
+    let number =
+        first(&[(!good(d), 20), (buf.len() > LIMIT, 21), (key.is_some_and(|k| k > 65_535), 25), (buf.len() < bytes.len(), 27)]);
+    if number != 0 {
+        return refused(number);
+    }
+    buf[..bytes.len()].copy_from_slice(&bytes);
+    FlatCount { number: 0, bytes: bytes.len() }
+}
+
+/// What a call writes, the bytes that it needs beyond them, and the state behind it; or its number.
+fn written(buf: &[u8], d: &FlatDialect, w: FlatWriter, op: &Op) -> Result<(Vec<u8>, FlatWriter), u32> {
+    if matches!(op, Op::Put(p) | Op::Write { put: p, .. } if !typed(p)) {
+        return Err(32);
+    }
+    let open = w.open != 0;
+    let range = w.position > buf.len()
+        || (open && w.start.checked_add(13).is_none_or(|body| body > w.position))
+        || (!open && w.left != 0)
+        || w.left > LIMIT as u64;
+    let shared = first(&[(!good(d), 20), (buf.len() > LIMIT, 21), (range, 22)]);
+    if shared != 0 {
+        return Err(shared);
+    }
+    let room = buf.len() - w.position;
+    let end = 9 + d.length;
+    let outside = |at| FlatWriter { position: at, start: 0, open: 0, left: 0 };
+    let (number, bytes, mut after) = match op {
+        Op::Open { count, seqno } => {
+            let number = first(&[(open, 24), (*count > LIMIT as u64, 23), (*count != 0 && room < 13 + end, 27)]);
+            if *count == 0 && number == 0 {
+                return Ok((vec![], w));
+            }
+            (number, start_bytes(*count as u32, *seqno), FlatWriter { position: 0, start: w.position, open: 1, left: *count })
+        }
+        Op::Put(p) => {
+            let bytes = put_bytes(d, p);
+            let wrong = key_len(p).is_some_and(|k| k == 0 || k > 65_535);
+            let number = first(&[(!open, 24), (w.left == 0, 26), (wrong, 25), (room < bytes.len() + end, 27)]);
+            (number, bytes, FlatWriter { position: 0, start: w.start, open: 1, left: w.left.saturating_sub(1) })
+        }
+        Op::Close => {
+            let number = first(&[(!open, 24), (w.left > 0, 26), (room < end, 27)]);
+            let body = if number == 0 { &buf[w.start + 13..w.position] } else { &[] };
+            (number, end_bytes(d, xxh3_64(body)), outside(0))
+        }
+        Op::Write { seqno, put } => {
+            let body = put_bytes(d, put);
+            let bytes = [start_bytes(1, *seqno), body.clone(), end_bytes(d, xxh3_64(&body))].concat();
+            let number = first(&[(open, 24), (key_len(put).is_some_and(|k| k > 65_535), 25), (room < bytes.len(), 27)]);
+            (number, bytes, outside(0))
+        }
+    };
+    if number != 0 {
+        return Err(number);
+    }
+    after.position = w.position + bytes.len();
+    Ok((bytes, after))
+}
+
+pub fn call(buf: &mut [u8], d: &FlatDialect, w: FlatWriter, op: &Op) -> FlatReply {
+    match written(buf, d, w, op) {
+        Err(number) => FlatReply { number, bytes: 0, writer: w },
+        Ok((bytes, after)) => {
+            buf[w.position..w.position + bytes.len()].copy_from_slice(&bytes);
+            // a state that comes back from a call has its flag as 0 or 1
+            FlatReply { number: 0, bytes: bytes.len(), writer: FlatWriter { open: u32::from(after.open != 0), ..after } }
+        }
+    }
 }

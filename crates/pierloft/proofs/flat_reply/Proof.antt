@@ -1,0 +1,26 @@
+use borrow.Author.Needs.{needs}
+use Rattle.pierloft.proofs.flat_reply.Statement.{statement}
+use Rattle.pierloft.proofs.flat_reply.Tie as tie
+use Rattle.pierloft.proofs.flat_reply.Reads as reads
+use Rattle.pierloft.proofs.flat_reply.Lts as lts
+use Rattle.pierloft.proofs.flat_writer.Reads as flat-writer-reads
+
+enum-known-answer : tie.Need-enum-known-answer
+enum-known-answer c = search needs
+
+flat-writer-requires : tie.Need-flat-writer-requires
+flat-writer-requires c κs = search needs
+
+enum-known-answer-2 : tie.Need-enum-known-answer-2
+enum-known-answer-2 c = search needs
+
+returns : tie.Need-returns
+returns c = rw (c .before .before .answer .given .1, c .flat-writer .ensures)
+
+returns-2 : tie.Need-returns-2
+returns-2 c = rw (c .before .answer2 .given .1)
+
+pub flat-reply-spec : {M : Type 1} → statement M
+flat-reply-spec =
+    tie.close
+    (tie.spec enum-known-answer flat-writer-requires enum-known-answer-2 returns returns-2)

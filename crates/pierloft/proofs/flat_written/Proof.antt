@@ -1,0 +1,20 @@
+use borrow.Author.Needs.{needs}
+use Rattle.pierloft.proofs.flat_written.Statement.{statement}
+use Rattle.pierloft.proofs.flat_written.Tie as tie
+use Rattle.pierloft.proofs.flat_written.Reads as reads
+use Rattle.pierloft.proofs.flat_written.Lts as lts
+
+enum-known-a : tie.Need-enum-known-a
+enum-known-a c = search needs
+
+enum-known-a-2 : tie.Need-enum-known-a-2
+enum-known-a-2 c = search needs
+
+returns : tie.Need-returns
+returns c = rw (c .before .a .given .1)
+
+returns-2 : tie.Need-returns-2
+returns-2 c = rw (c .before .a2 .given .1)
+
+pub flat-written-spec : {M : Type 1} → statement M
+flat-written-spec = tie.close (tie.spec enum-known-a enum-known-a-2 returns returns-2)

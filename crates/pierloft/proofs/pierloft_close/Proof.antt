@@ -1,0 +1,38 @@
+use borrow.Author.Needs.{needs}
+use Rattle.pierloft.proofs.pierloft_close.Statement.{statement}
+use Rattle.pierloft.proofs.pierloft_close.Tie as tie
+use Rattle.pierloft.proofs.pierloft_close.Reads as reads
+use Rattle.pierloft.proofs.pierloft_close.Lts as lts
+use Rattle.pierloft.proofs.dialect_of.Reads as dialect-of-reads
+use Rattle.pierloft.proofs.flat_reply.Reads as flat-reply-reads
+use Rattle.pierloft.proofs.writer_of.Reads as writer-of-reads
+use Rattle.writer.proofs.close.Reads as close-reads
+
+dialect-of-requires : tie.Need-dialect-of-requires
+dialect-of-requires c κs = search needs
+
+writer-of-requires : tie.Need-writer-of-requires
+writer-of-requires c κs = search needs
+
+close-requires : tie.Need-close-requires
+close-requires c κs = search needs
+
+flat-reply-requires : tie.Need-flat-reply-requires
+flat-reply-requires c κs = search needs
+
+same-length : tie.Need-same-length
+same-length c = search needs
+
+returns : tie.Need-returns
+returns c = ((cc), (cc))
+
+pub pierloft-close-spec : {M : Type 1} → statement M
+pierloft-close-spec =
+    tie.close
+    (tie.spec
+    dialect-of-requires
+    writer-of-requires
+    close-requires
+    flat-reply-requires
+    same-length
+    returns)

@@ -1,0 +1,28 @@
+use borrow.Author.Needs.{needs}
+use Rattle.pierloft.proofs.pierloft_encode_clear.Statement.{statement}
+use Rattle.pierloft.proofs.pierloft_encode_clear.Tie as tie
+use Rattle.pierloft.proofs.pierloft_encode_clear.Reads as reads
+use Rattle.pierloft.proofs.pierloft_encode_clear.Lts as lts
+use Rattle.encode.proofs.encode_clear.Reads as encode-clear-reads
+use Rattle.pierloft.proofs.dialect_of.Reads as dialect-of-reads
+use Rattle.pierloft.proofs.flat_written.Reads as flat-written-reads
+
+dialect-of-requires : tie.Need-dialect-of-requires
+dialect-of-requires c κs = search needs
+
+encode-clear-requires : tie.Need-encode-clear-requires
+encode-clear-requires c κs = search needs
+
+flat-written-requires : tie.Need-flat-written-requires
+flat-written-requires c κs = search needs
+
+same-length : tie.Need-same-length
+same-length c = search needs
+
+returns : tie.Need-returns
+returns c = ((cc), (cc))
+
+pub pierloft-encode-clear-spec : {M : Type 1} → statement M
+pierloft-encode-clear-spec =
+    tie.close
+    (tie.spec dialect-of-requires encode-clear-requires flat-written-requires same-length returns)

@@ -1,0 +1,48 @@
+use borrow.Author.Tests.{le-leb, lt-leb}
+use Rattle.pierloft.specs.Flat.{typedCount, typedBytes}
+use borrow.Author.Needs.{needs}
+use Rattle.pierloft.proofs.pierloft_encode_item.Statement.{statement}
+use Rattle.pierloft.proofs.pierloft_encode_item.Tie as tie
+use Rattle.pierloft.proofs.pierloft_encode_item.Reads as reads
+use Rattle.pierloft.proofs.pierloft_encode_item.Lts as lts
+use Rattle.encode.proofs.encode_item.Reads as encode-item-reads
+use Rattle.pierloft.proofs.dialect_of.Reads as dialect-of-reads
+use Rattle.pierloft.proofs.flat_written.Reads as flat-written-reads
+use Rattle.pierloft.proofs.type_of.Reads as type-of-reads
+
+returns : tie.Need-returns
+unfolding typedCount typedBytes
+returns c = (rw (lt-leb _ _ (c .if1 .taken)), rw (lt-leb _ _ (c .if1 .taken)))
+
+type-of-requires : tie.Need-type-of-requires
+type-of-requires c κs = search needs
+
+dialect-of-requires : tie.Need-dialect-of-requires
+dialect-of-requires c κs = search needs
+
+encode-item-requires : tie.Need-encode-item-requires
+encode-item-requires c κs = search needs
+
+flat-written-requires : tie.Need-flat-written-requires
+flat-written-requires c κs = search needs
+
+same-length : tie.Need-same-length
+same-length c = search needs
+
+returns-2 : tie.Need-returns-2
+unfolding typedCount typedBytes
+returns-2 c =
+    let t = le-leb _ _ (c .before .before .before .before .before .before .before .if1 .left) in
+    (rw t (cc), rw t (cc))
+
+pub pierloft-encode-item-spec : {M : Type 1} → statement M
+pierloft-encode-item-spec =
+    tie.close
+    (tie.spec
+    returns
+    type-of-requires
+    dialect-of-requires
+    encode-item-requires
+    flat-written-requires
+    same-length
+    returns-2)

@@ -1,0 +1,53 @@
+use borrow.Author.Tests.{le-leb, lt-leb}
+use Rattle.pierloft.specs.Flat.{typedReply, typedBytes}
+use borrow.Author.Needs.{needs}
+use Rattle.pierloft.proofs.pierloft_write_raw.Statement.{statement}
+use Rattle.pierloft.proofs.pierloft_write_raw.Tie as tie
+use Rattle.pierloft.proofs.pierloft_write_raw.Reads as reads
+use Rattle.pierloft.proofs.pierloft_write_raw.Lts as lts
+use Rattle.one_entry.proofs.write_raw.Reads as write-raw-reads
+use Rattle.pierloft.proofs.dialect_of.Reads as dialect-of-reads
+use Rattle.pierloft.proofs.flat_reply.Reads as flat-reply-reads
+use Rattle.pierloft.proofs.type_of.Reads as type-of-reads
+use Rattle.pierloft.proofs.writer_of.Reads as writer-of-reads
+
+returns : tie.Need-returns
+unfolding typedReply typedBytes
+returns c = (rw (lt-leb _ _ (c .if1 .taken)), rw (lt-leb _ _ (c .if1 .taken)))
+
+type-of-requires : tie.Need-type-of-requires
+type-of-requires c κs = search needs
+
+dialect-of-requires : tie.Need-dialect-of-requires
+dialect-of-requires c κs = search needs
+
+writer-of-requires : tie.Need-writer-of-requires
+writer-of-requires c κs = search needs
+
+write-raw-requires : tie.Need-write-raw-requires
+write-raw-requires c κs = search needs
+
+flat-reply-requires : tie.Need-flat-reply-requires
+flat-reply-requires c κs = search needs
+
+same-length : tie.Need-same-length
+same-length c = search needs
+
+returns-2 : tie.Need-returns-2
+unfolding typedReply typedBytes
+returns-2 c =
+    let t = le-leb _ _ (c .before .before .before .before .before .before .before .before .if1 .left) in
+    (rw t (cc), rw t (cc))
+
+pub pierloft-write-raw-spec : {M : Type 1} → statement M
+pierloft-write-raw-spec =
+    tie.close
+    (tie.spec
+    returns
+    type-of-requires
+    dialect-of-requires
+    writer-of-requires
+    write-raw-requires
+    flat-reply-requires
+    same-length
+    returns-2)
