@@ -26,7 +26,7 @@ use Rattle.reader.specs.declared.Reader.{Reader}
 use Rattle.reader.specs.declared.Stepped.{Stepped}
 use Rattle.reader.specs.Batch.{Batch, batch, batchPlan}
 use Rattle.reader.specs.Found.{outcomeOf, found, foundAt}
-use Rattle.reader.specs.Reading.{strange, stateRefusal, stepRefusal, orRefused, answered, reader, after, with-state, stepped, ending}
+use Rattle.reader.specs.Reading.{strange, stateRefusal, reader, after, with-state, stepped, ending}
 use Rattle.reader.proofs.Bridge.{hungry, step-at}
 use Rattle.text.specs.Written.{Begins}
 use Rattle.listing.specs.Listing.{batchLine, stateLine, entryLine, entryLines, readingLines}
