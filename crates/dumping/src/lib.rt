@@ -3,7 +3,9 @@
 use dialect::Dialect;
 use libc::STDIN_FILENO;
 use libc::STDOUT_FILENO;
+use listing::LONGEST;
 use listing::Listed;
+use listing::ROOM;
 use listing::list;
 
 fn print_refused(number: u32) {
@@ -14,9 +16,9 @@ fn print_refused(number: u32) {
 
 // Reads up to one byte more than may be listed, so that a longer journal is refused; the buffer has room for any listing.
 pub fn dump(d: Dialect) {
-    let mut image = [0u8; 65537];
+    let mut image = [0u8; LONGEST + 1];
     let n = io::read_full(STDIN_FILENO, &mut image);
-    let mut out = [0u8; 262272];
+    let mut out = [0u8; ROOM];
     let listed = list(&image[..n], d, &mut out);
     match listed {
         Listed::Wrote(bytes) => {

@@ -1,7 +1,6 @@
 -- What the arms of a match on a decoder's answer know: which case it is not. A law by cases on the answer takes one of these, and its
 -- impossible clause is `absurd (not refl)`. Assumes nothing.
 use Prim.Native.Nat.{ℕ}
-use mathlib.Core.Path.{_≡_}
 use mathlib.Core.Logic.{_≢_}
 use mathlib.Core.List.{List, [], _∷_}
 use mathlib.Core.Bool.{not}

@@ -1,17 +1,16 @@
 -- What the reader's calls yield over an image: the words in which the laws speak, and that every reading of the plan is one of the calls.
-use Prim.Native.Nat.{ℕ, _+_, _-_, _≤_, _<_}
+use Prim.Native.Nat.{ℕ, _+_, _-_, _≤_}
 use mathlib.Core.Path.{_≡_, refl, sym, ap, _∙_}
 use mathlib.Core.Bool.{true}
-use mathlib.Core.List.{List, [], _∷_, _++_}
+use mathlib.Core.List.{List, [], _∷_}
 use native.Mathlib.Omega.{arith}
 use lib.ListN.{length, drop, length-append, length-drop}
 use lib.Seq.{drop-at, drop-drop}
-use lib.Dec.{leb}
 use borrow.Author.Tests.{le-ltb}
 use Rattle.number.specs.Limit.{limit}
 use Rattle.xxh3.specs.Xxh3.{xxh3-64}
-use Rattle.plan.specs.Plan.{Res, ok, later, run, runAt}
-use Rattle.plan.specs.Reading.{Reading, clean, broken, next, read, read-nil, read-stop, read-next, Parsed, none, ends, more, parsed}
+use Rattle.plan.specs.Plan.{ok, later, run, runAt}
+use Rattle.plan.specs.Reading.{Reading, next, read, read-nil, read-stop, read-next, Parsed, none, ends, more, parsed}
 use Rattle.plan.specs.Place.{at-run}
 use Rattle.plan.specs.Ends.{within}
 use Rattle.plan.specs.Journal.{all, outcome, Is}
@@ -25,7 +24,7 @@ use Rattle.reader.specs.declared.Answer.the-variants.{Accepted, Ended}
 use Rattle.reader.specs.Batch.{Batch, batch, batchPlan}
 use Rattle.reader.specs.Found.{outcomeOf}
 use Rattle.reader.specs.Reading.{reader, with-state, walk, told}
-use Rattle.reader.specs.Body.{Body, Held, held}
+use Rattle.reader.specs.Body.{Body, held}
 use Rattle.reader.proofs.Bridge.{hungry, bridge}
 
 -- a batch, and where it begins and ends

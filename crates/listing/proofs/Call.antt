@@ -1,11 +1,12 @@
 -- The public call: refused, or the listing over the front. Assumes nothing.
-use Prim.Native.Nat.{ℕ, zero, suc, _+_, _≤_}
+use Prim.Native.Nat.{ℕ, zero, suc, _+_, _-_, _/_, _≤_, _<_}
 use mathlib.Core.Path.{_≡_, refl, sym, ap, _∙_}
-use mathlib.Core.Bool.{true, not}
+use mathlib.Core.Bool.{Bool, true, false}
 use mathlib.Core.List.{List, _++_}
 use native.Mathlib.Omega.{arith}
 use lib.ListN.{length, drop, length-append}
-use borrow.Author.Tests.{ltb-false}
+use lib.Dec.{ltb}
+use borrow.Author.Tests.{lt-ltb, le-ltb, ltb-true, ltb-false}
 use Rattle.number.specs.Limit.{limit}
 use Rattle.dialect.specs.declared.Dialect.{Dialect}
 use Rattle.dialect.specs.Dialect.{good}
@@ -63,3 +64,15 @@ module _ (d : Dialect) (s out : List ℕ) where
           let m : length ys ≡ length (listing d s) + length (drop (length (listing d s)) out) = ap length b ∙ length-append (listing d s) (drop (length (listing d s)) out) in
           omega arith
       go (suc n) a b = let z : _≡_ {A = ℕ} 0 1 = cc in absurd (omega arith)
+
+-- ---- room
+
+pub tight : (n room : ℕ) → room < 128 → true ≡ ltb room (roomFor n)
+tight n room h = sym (lt-ltb room (roomFor n) (omega arith))
+
+pub tight-by : (n room : ℕ) → 128 ≤ room → ltb ((room - 128) / 4) n ≡ ltb room (roomFor n)
+tight-by n room h = go (ltb ((room - 128) / 4) n) refl
+  where
+    go : (b : Bool) → ltb ((room - 128) / 4) n ≡ b → b ≡ ltb room (roomFor n)
+    go true e = let l = ltb-true ((room - 128) / 4) n e in sym (lt-ltb room (roomFor n) (omega arith))
+    go false e = let l = ltb-false ((room - 128) / 4) n e in sym (le-ltb room (roomFor n) (omega arith))

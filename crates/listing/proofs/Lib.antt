@@ -1,6 +1,6 @@
 pub mod Call
 pub mod Ends
 pub mod Entries
-pub mod Names
+pub mod Lines
 pub mod Sizes
 pub mod Steps

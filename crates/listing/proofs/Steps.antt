@@ -26,8 +26,8 @@ use Rattle.reader.specs.declared.Reader.{Reader}
 use Rattle.reader.specs.declared.Stepped.{Stepped}
 use Rattle.reader.specs.Batch.{Batch, batch, batchPlan}
 use Rattle.reader.specs.Found.{outcomeOf, found, foundAt}
-use Rattle.reader.specs.Reading.{strange, stateRefusal, stepRefusal, orRefused, answered, reader, after, with-state, stepped, ending}
-use Rattle.reader.proofs.Bridge.{hungry}
+use Rattle.reader.specs.Reading.{strange, stateRefusal, reader, after, with-state, stepped, ending}
+use Rattle.reader.proofs.Bridge.{hungry, step-at}
 use Rattle.text.specs.Written.{Begins}
 use Rattle.listing.specs.Listing.{batchLine, stateLine, entryLine, entryLines, readingLines}
 use Rattle.listing.specs.Walk.{lineOf, nextOf, linesAt, linesFrom}
@@ -63,10 +63,6 @@ module _ (d : Dialect) (s : List ℕ) where
     pub sound : stateRefusal (length s) r ≡ 0
 
   module _ (g : good d ≡ true) (l : length s ≤ limit) (p : ℕ) (k : p ≤ length s) where
-    step-at : stepped d h s (reader p) ≡ with-state (reader p) (foundAt d h s p)
-    unfolding stepped answered orRefused stepRefusal stateRefusal strange whenOf firstOf
-    step-at = rw (g, le-ltb limit (length s) l, le-ltb (length s) p k)
-
     sound-end : (o : ℕ) → o ≤ 4 → stateRefusal (length s) (after (reader p) (Ended o)) ≡ 0
     unfolding stateRefusal strange whenOf firstOf after
     sound-end o m = rw (le-ltb limit (length s) l, le-ltb (length s) p k, le-ltb 4 o m)
@@ -113,7 +109,7 @@ module _ (d : Dialect) (s : List ℕ) where
   -- the same of a state that is not ended, and of what the code calls the step's answer
   module _ (g : good d ≡ true) (l : length s ≤ limit) (st : Reader) (fresh : st ≡ reader (st .position)) (k : st .position ≤ length s) (r : Stepped) (e : r ≡ stepped d h s st) where
     step-is : r ≡ with-state (reader (st .position)) (foundAt d h s (st .position))
-    step-is = e ∙ ap (stepped d h s) fresh ∙ step-at g l (st .position) k
+    step-is = e ∙ ap (stepped d h s) fresh ∙ step-at d h s g l (st .position) k
 
     pub taken : {seqno count body end next : ℕ} → r .answer ≡ Accepted seqno count body end next → Taken (st .position) seqno count body (r .reader)
     unfolding Comes

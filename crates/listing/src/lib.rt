@@ -31,6 +31,11 @@ use text::put_pair;
 use text::put_three;
 use text::put_word;
 
+// The most bytes of a journal that can be listed, and room enough for the listing of any such journal.
+pub const LONGEST: usize = 65_536;
+
+pub const ROOM: usize = 4 * LONGEST + 128;
+
 // How many bytes were written, or 20, 21 or 27.
 pub enum Listed {
     Wrote(usize),
@@ -38,7 +43,7 @@ pub enum Listed {
 }
 
 // An entry's line: how many bytes it has, and where the next entry begins.
-pub struct Printed {
+struct Printed {
     pub put: usize,
     pub next: usize,
 }
@@ -222,7 +227,7 @@ fn list_refusal(d: Dialect, n: usize, room: usize) -> u32
 {
     first(
         when(!d.is_good(), 20),
-        first(when(65_536 < n, 21), when(is_tight(n, room), 27)),
+        first(when(LONGEST < n, 21), when(is_tight(n, room), 27)),
     )
 }
 

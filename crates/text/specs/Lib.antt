@@ -1,3 +1,4 @@
 pub mod Text
 pub mod Sizes
+pub mod Value
 pub mod Written

@@ -6,12 +6,6 @@ use mathlib.Core.Path.{sym, _∙_}
 use borrow.Author.Needs.{needs}
 use Rattle.dumping.proofs.dump.Statement.{statement}
 use Rattle.dumping.proofs.dump.Tie as tie
-use Rattle.dumping.proofs.dump.Reads as reads
-use Rattle.dumping.proofs.dump.Lts as lts
-use Rattle.dumping.proofs.print_refused.Reads as print-refused-reads
-use Rattle.io.proofs.read_full.Reads as read-full-reads
-use Rattle.io.proofs.write_all.Reads as write-all-reads
-use Rattle.listing.proofs.list.Reads as list-reads
 
 slice-aggregate-read-full : tie.Need-slice-aggregate-read-full
 slice-aggregate-read-full c = search needs

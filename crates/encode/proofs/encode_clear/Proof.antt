@@ -7,10 +7,6 @@ use mathlib.Core.Path.{sym, _∙_}
 use borrow.Author.Needs.{needs}
 use Rattle.encode.proofs.encode_clear.Statement.{statement}
 use Rattle.encode.proofs.encode_clear.Tie as tie
-use Rattle.encode.proofs.encode_clear.Reads as reads
-use Rattle.encode.proofs.encode_clear.Lts as lts
-use Rattle.encode.proofs.encode_refusal.Reads as encode-refusal-reads
-use Rattle.encode.proofs.fill_clear.Reads as fill-clear-reads
 
 encode-refusal-requires : tie.Need-encode-refusal-requires
 encode-refusal-requires c κs = search needs

@@ -10,10 +10,6 @@ use Prim.Native.Nat.{_+_}
 use borrow.Author.Needs.{needs}
 use Rattle.encode.proofs.encode_end.Statement.{statement}
 use Rattle.encode.proofs.encode_end.Tie as tie
-use Rattle.encode.proofs.encode_end.Reads as reads
-use Rattle.encode.proofs.encode_end.Lts as lts
-use Rattle.encode.proofs.encode_refusal.Reads as encode-refusal-reads
-use Rattle.encode.proofs.fill_end.Reads as fill-end-reads
 
 encode-refusal-requires : tie.Need-encode-refusal-requires
 encode-refusal-requires c κs = search needs

@@ -12,12 +12,6 @@ use Prim.Native.Nat.{ℕ, _+_}
 use borrow.Author.Needs.{needs}
 use Rattle.encode.proofs.encode_item.Statement.{statement}
 use Rattle.encode.proofs.encode_item.Tie as tie
-use Rattle.encode.proofs.encode_item.Reads as reads
-use Rattle.encode.proofs.encode_item.Lts as lts
-use Rattle.dialect.proofs.Dialect.code.Reads as code-reads
-use Rattle.encode.proofs.encode_refusal.Reads as encode-refusal-reads
-use Rattle.encode.proofs.fill_item.Reads as fill-item-reads
-use Rattle.refusal.proofs.long_key.Reads as long-key-reads
 
 long-key-requires : tie.Need-long-key-requires
 long-key-requires c κs = search needs

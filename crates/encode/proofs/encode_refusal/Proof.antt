@@ -3,12 +3,6 @@ use native.Mathlib.Nat.{sub-zero}
 use borrow.Author.Needs.{needs}
 use Rattle.encode.proofs.encode_refusal.Statement.{statement}
 use Rattle.encode.proofs.encode_refusal.Tie as tie
-use Rattle.encode.proofs.encode_refusal.Reads as reads
-use Rattle.encode.proofs.encode_refusal.Lts as lts
-use Rattle.refusal.proofs.buffer_refusal.Reads as buffer-refusal-reads
-use Rattle.refusal.proofs.first.Reads as first-reads
-use Rattle.refusal.proofs.lacks.Reads as lacks-reads
-use Rattle.refusal.proofs.when.Reads as when-reads
 
 buffer-refusal-requires : tie.Need-buffer-refusal-requires
 buffer-refusal-requires c κs = search needs

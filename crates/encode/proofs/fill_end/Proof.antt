@@ -8,11 +8,6 @@ use mathlib.Core.Path.{refl}
 use borrow.Author.Needs.{needs}
 use Rattle.encode.proofs.fill_end.Statement.{statement}
 use Rattle.encode.proofs.fill_end.Tie as tie
-use Rattle.encode.proofs.fill_end.Reads as reads
-use Rattle.encode.proofs.fill_end.Lts as lts
-use Rattle.encode.proofs.put_magic.Reads as put-magic-reads
-use Rattle.number.proofs.put_u64.Reads as put-u64-reads
-use Rattle.number.proofs.put_u8.Reads as put-u8-reads
 
 put-u8-requires : tie.Need-put-u8-requires
 put-u8-requires c κs = search needs

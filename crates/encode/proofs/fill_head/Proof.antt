@@ -7,11 +7,6 @@ use mathlib.Core.Path.{refl}
 use borrow.Author.Needs.{needs}
 use Rattle.encode.proofs.fill_head.Statement.{statement}
 use Rattle.encode.proofs.fill_head.Tie as tie
-use Rattle.encode.proofs.fill_head.Reads as reads
-use Rattle.encode.proofs.fill_head.Lts as lts
-use Rattle.encode.proofs.put_codes.Reads as put-codes-reads
-use Rattle.encode.proofs.put_lengths.Reads as put-lengths-reads
-use Rattle.number.proofs.put_u64.Reads as put-u64-reads
 
 put-codes-requires : tie.Need-put-codes-requires
 put-codes-requires c κs = search needs

@@ -9,10 +9,6 @@ use Prim.Native.Nat.{ℕ, _+_}
 use borrow.Author.Needs.{needs}
 use Rattle.encode.proofs.fill_item.Statement.{statement}
 use Rattle.encode.proofs.fill_item.Tie as tie
-use Rattle.encode.proofs.fill_item.Reads as reads
-use Rattle.encode.proofs.fill_item.Lts as lts
-use Rattle.encode.proofs.fill_head.Reads as fill-head-reads
-use Rattle.number.proofs.copy_front.Reads as copy-front-reads
 
 fill-head-requires : tie.Need-fill-head-requires
 fill-head-requires c κs = search needs

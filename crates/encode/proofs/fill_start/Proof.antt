@@ -6,11 +6,6 @@ use mathlib.Core.Path.{refl}
 use borrow.Author.Needs.{needs}
 use Rattle.encode.proofs.fill_start.Statement.{statement}
 use Rattle.encode.proofs.fill_start.Tie as tie
-use Rattle.encode.proofs.fill_start.Reads as reads
-use Rattle.encode.proofs.fill_start.Lts as lts
-use Rattle.number.proofs.put_u32.Reads as put-u32-reads
-use Rattle.number.proofs.put_u64.Reads as put-u64-reads
-use Rattle.number.proofs.put_u8.Reads as put-u8-reads
 
 put-u8-requires : tie.Need-put-u8-requires
 put-u8-requires c κs = search needs

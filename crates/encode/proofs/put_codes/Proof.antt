@@ -5,8 +5,6 @@ use lib.ListN.{length-set}
 use borrow.Author.Needs.{needs}
 use Rattle.encode.proofs.put_codes.Statement.{statement}
 use Rattle.encode.proofs.put_codes.Tie as tie
-use Rattle.encode.proofs.put_codes.Reads as reads
-use Rattle.encode.proofs.put_codes.Lts as lts
 
 slice-write-buf : tie.Need-slice-write-buf
 slice-write-buf c = search needs

@@ -5,10 +5,6 @@ use mathlib.Core.Path.{refl}
 use borrow.Author.Needs.{needs}
 use Rattle.encode.proofs.put_lengths.Statement.{statement}
 use Rattle.encode.proofs.put_lengths.Tie as tie
-use Rattle.encode.proofs.put_lengths.Reads as reads
-use Rattle.encode.proofs.put_lengths.Lts as lts
-use Rattle.number.proofs.put_u16.Reads as put-u16-reads
-use Rattle.number.proofs.put_u32.Reads as put-u32-reads
 
 put-u16-requires : tie.Need-put-u16-requires
 put-u16-requires c κs = search needs

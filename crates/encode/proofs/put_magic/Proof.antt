@@ -6,9 +6,6 @@ use mathlib.Core.Path.{sym}
 use borrow.Author.Needs.{needs}
 use Rattle.encode.proofs.put_magic.Statement.{statement}
 use Rattle.encode.proofs.put_magic.Tie as tie
-use Rattle.encode.proofs.put_magic.Reads as reads
-use Rattle.encode.proofs.put_magic.Lts as lts
-use Rattle.number.proofs.copy_front.Reads as copy-front-reads
 
 array-share-prefix-a : tie.Need-array-share-prefix-a
 array-share-prefix-a c = search needs

@@ -1,8 +1,6 @@
-use Rattle.listing.proofs.Names.{tight, tight-by}
+use Rattle.listing.proofs.Call.{tight, tight-by}
 use Rattle.listing.proofs.is_tight.Statement.{statement}
 use Rattle.listing.proofs.is_tight.Tie as tie
-use Rattle.listing.proofs.is_tight.Reads as reads
-use Rattle.listing.proofs.is_tight.Lts as lts
 
 returns : tie.Need-returns
 returns c = tight (c .before .args .n) (c .before .args .room) (c .if1 .taken)

@@ -6,11 +6,6 @@ use mathlib.Core.Path.{sym, _∙_}
 use borrow.Author.Needs.{needs}
 use Rattle.listing.proofs.list.Statement.{statement}
 use Rattle.listing.proofs.list.Tie as tie
-use Rattle.listing.proofs.list.Reads as reads
-use Rattle.listing.proofs.list.Lts as lts
-use Rattle.listing.proofs.list_refusal.Reads as list-refusal-reads
-use Rattle.listing.proofs.put_journal.Reads as put-journal-reads
-use Rattle.listing.proofs.put_reading.Reads as put-reading-reads
 
 list-refusal-requires : tie.Need-list-refusal-requires
 list-refusal-requires c κs = search needs

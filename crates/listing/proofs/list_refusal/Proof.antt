@@ -2,12 +2,6 @@ use Rattle.listing.specs.Listing.{listRefusal}
 use borrow.Author.Needs.{needs}
 use Rattle.listing.proofs.list_refusal.Statement.{statement}
 use Rattle.listing.proofs.list_refusal.Tie as tie
-use Rattle.listing.proofs.list_refusal.Reads as reads
-use Rattle.listing.proofs.list_refusal.Lts as lts
-use Rattle.dialect.proofs.Dialect.is_good.Reads as is-good-reads
-use Rattle.listing.proofs.is_tight.Reads as is-tight-reads
-use Rattle.refusal.proofs.first.Reads as first-reads
-use Rattle.refusal.proofs.when.Reads as when-reads
 
 is-good-requires : tie.Need-is-good-requires
 is-good-requires c κs = search needs

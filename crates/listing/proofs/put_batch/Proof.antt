@@ -1,15 +1,11 @@
 use lib.ListN.{length-append}
 use native.Mathlib.Omega.{arith}
 use Rattle.listing.proofs.Sizes.{batch-size}
-use Rattle.listing.proofs.Names.{batch-pieces}
+use Rattle.listing.proofs.Lines.{batch-pieces}
 use Rattle.text.specs.Written.{named, fits, room, then}
 use borrow.Author.Needs.{needs}
 use Rattle.listing.proofs.put_batch.Statement.{statement}
 use Rattle.listing.proofs.put_batch.Tie as tie
-use Rattle.listing.proofs.put_batch.Reads as reads
-use Rattle.listing.proofs.put_batch.Lts as lts
-use Rattle.listing.proofs.put_entries.Reads as put-entries-reads
-use Rattle.text.proofs.put_three.Reads as put-three-reads
 
 slice-aggregate-put-three : tie.Need-slice-aggregate-put-three
 slice-aggregate-put-three c = search needs

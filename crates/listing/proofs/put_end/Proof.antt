@@ -6,10 +6,6 @@ use Rattle.text.specs.Written.{named}
 use borrow.Author.Needs.{needs}
 use Rattle.listing.proofs.put_end.Statement.{statement}
 use Rattle.listing.proofs.put_end.Tie as tie
-use Rattle.listing.proofs.put_end.Reads as reads
-use Rattle.listing.proofs.put_end.Lts as lts
-use Rattle.text.proofs.put_three.Reads as put-three-reads
-use Rattle.reader.proofs.kept.Reads as kept-reads
 
 kept-requires : tie.Need-kept-requires
 kept-requires c κs = search needs

@@ -7,9 +7,6 @@ use native.Mathlib.Omega.{arith}
 use Prim.Native.Nat.{_≤_}
 use Rattle.listing.proofs.put_entries.Statement.{statement}
 use Rattle.listing.proofs.put_entries.Tie as tie
-use Rattle.listing.proofs.put_entries.Reads as reads
-use Rattle.listing.proofs.put_entries.Lts as lts
-use Rattle.listing.proofs.put_entry.Reads as put-entry-reads
 
 abbrev Inv-loop : tie.InvT-loop
 Inv-loop out₀ image d count body put₀ at₀ left₀ out put at left = (at ≤ length image) × Partly (linesAt d image count body) (linesAt d image left at) out₀ out put

@@ -1,6 +1,6 @@
 use lib.ListN.{length}
 use mathlib.Core.Path.{sym, _∙_, ap}
-use Rattle.listing.proofs.Names.{clear-pieces}
+use Rattle.listing.proofs.Lines.{clear-pieces}
 use Rattle.listing.proofs.Sizes.{clear-size}
 use Rattle.text.specs.Written.{named, nothing}
 use native.Mathlib.Omega.{arith}
@@ -9,11 +9,6 @@ use Rattle.entry.proofs.Tags.{not-item, not-clear}
 use borrow.Author.Needs.{needs}
 use Rattle.listing.proofs.put_entry.Statement.{statement}
 use Rattle.listing.proofs.put_entry.Tie as tie
-use Rattle.listing.proofs.put_entry.Reads as reads
-use Rattle.listing.proofs.put_entry.Lts as lts
-use Rattle.entry.proofs.entry_at.Reads as entry-at-reads
-use Rattle.listing.proofs.put_item.Reads as put-item-reads
-use Rattle.text.proofs.put_last.Reads as put-last-reads
 
 entry-at-requires : tie.Need-entry-at-requires
 entry-at-requires c κs = search needs

@@ -1,4 +1,4 @@
-use Rattle.listing.proofs.Names.{item-pieces}
+use Rattle.listing.proofs.Lines.{item-pieces}
 use Rattle.text.specs.Written.{room, then, named}
 use lib.ListN.{length-append}
 use native.Mathlib.Omega.{arith}
@@ -6,11 +6,6 @@ use Rattle.listing.proofs.Sizes.{item-size}
 use borrow.Author.Needs.{needs}
 use Rattle.listing.proofs.put_item.Statement.{statement}
 use Rattle.listing.proofs.put_item.Tie as tie
-use Rattle.listing.proofs.put_item.Reads as reads
-use Rattle.listing.proofs.put_item.Lts as lts
-use Rattle.text.proofs.put_pair.Reads as put-pair-reads
-use Rattle.listing.proofs.put_type.Reads as put-type-reads
-use Rattle.text.proofs.put_named.Reads as put-named-reads
 
 slice-aggregate-put-named : tie.Need-slice-aggregate-put-named
 slice-aggregate-put-named c = search needs

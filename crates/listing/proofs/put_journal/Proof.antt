@@ -5,10 +5,6 @@ use Rattle.listing.specs.Listing.{journalLine}
 use borrow.Author.Needs.{needs}
 use Rattle.listing.proofs.put_journal.Statement.{statement}
 use Rattle.listing.proofs.put_journal.Tie as tie
-use Rattle.listing.proofs.put_journal.Reads as reads
-use Rattle.listing.proofs.put_journal.Lts as lts
-use Rattle.text.proofs.put_named.Reads as put-named-reads
-use Rattle.text.proofs.put_word.Reads as put-word-reads
 
 slice-aggregate-put-named : tie.Need-slice-aggregate-put-named
 slice-aggregate-put-named c = search needs

@@ -9,12 +9,6 @@ use mathlib.Core.Path.{_≡_, refl}
 use Prim.Native.Nat.{_≤_, _-_}
 use Rattle.listing.proofs.put_reading.Statement.{statement}
 use Rattle.listing.proofs.put_reading.Tie as tie
-use Rattle.listing.proofs.put_reading.Reads as reads
-use Rattle.listing.proofs.put_reading.Lts as lts
-use Rattle.listing.proofs.put_batch.Reads as put-batch-reads
-use Rattle.listing.proofs.put_end.Reads as put-end-reads
-use Rattle.reader.proofs.Reader.new.Reads as new-reads
-use Rattle.reader.proofs.step.Reads as step-reads
 
 abbrev Inv-loop : tie.InvT-loop
 Inv-loop out₀ image d put₀ state₀ out put state = (state ≡ reader (state .position)) × (state .position ≤ length image) × Partly (linesFrom d image 0) (linesFrom d image (state .position)) out₀ out put

@@ -1,14 +1,11 @@
 use mathlib.Core.Path.{ap}
 use lib.ListN.{length}
 use native.Mathlib.Omega.{arith}
-use Rattle.listing.proofs.Names.{is-value, is-tombstone, is-weak, is-indirection, spaced}
+use Rattle.listing.proofs.Lines.{is-value, is-tombstone, is-weak, is-indirection, spaced}
 use Rattle.text.specs.Written.{named}
 use borrow.Author.Needs.{needs}
 use Rattle.listing.proofs.put_type.Statement.{statement}
 use Rattle.listing.proofs.put_type.Tie as tie
-use Rattle.listing.proofs.put_type.Reads as reads
-use Rattle.listing.proofs.put_type.Lts as lts
-use Rattle.text.proofs.put_word.Reads as put-word-reads
 
 slice-aggregate-put-word : tie.Need-slice-aggregate-put-word
 slice-aggregate-put-word c = search needs

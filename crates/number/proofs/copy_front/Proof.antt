@@ -7,8 +7,6 @@ use borrow.Author.Needs.{needs}
 use Rattle.number.proofs.Copy.{copy-more, copy-done}
 use Rattle.number.proofs.copy_front.Statement.{statement}
 use Rattle.number.proofs.copy_front.Tie as tie
-use Rattle.number.proofs.copy_front.Reads as reads
-use Rattle.number.proofs.copy_front.Lts as lts
 
 abbrev Inv-loop : tie.InvT-loop
 Inv-loop dst₀ src i₀ dst i = (i ≤ length src) × (length dst ≡ length dst₀) × (dst ≡ take i src ++ drop i dst₀)

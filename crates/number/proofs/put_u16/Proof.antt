@@ -3,8 +3,6 @@ use Rattle.number.specs.Number.{bytes}
 use borrow.Author.Needs.{needs}
 use Rattle.number.proofs.put_u16.Statement.{statement}
 use Rattle.number.proofs.put_u16.Tie as tie
-use Rattle.number.proofs.put_u16.Reads as reads
-use Rattle.number.proofs.put_u16.Lts as lts
 
 cast-buf : tie.Need-cast-buf
 cast-buf c = search needs

@@ -5,8 +5,6 @@ use lib.Seq.{sets-eq}
 use borrow.Author.Needs.{needs}
 use Rattle.number.proofs.put_u32.Statement.{statement}
 use Rattle.number.proofs.put_u32.Tie as tie
-use Rattle.number.proofs.put_u32.Reads as reads
-use Rattle.number.proofs.put_u32.Lts as lts
 
 cast-buf : tie.Need-cast-buf
 cast-buf c = search needs

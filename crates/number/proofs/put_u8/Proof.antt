@@ -3,8 +3,6 @@ use lib.Seq.{sets-eq}
 use borrow.Author.Needs.{needs}
 use Rattle.number.proofs.put_u8.Statement.{statement}
 use Rattle.number.proofs.put_u8.Tie as tie
-use Rattle.number.proofs.put_u8.Reads as reads
-use Rattle.number.proofs.put_u8.Lts as lts
 
 slice-write-buf : tie.Need-slice-write-buf
 slice-write-buf c = search needs

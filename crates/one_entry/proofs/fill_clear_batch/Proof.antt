@@ -9,12 +9,6 @@ use mathlib.Core.Path.{_≡_}
 use borrow.Author.Needs.{needs}
 use Rattle.one_entry.proofs.fill_clear_batch.Statement.{statement}
 use Rattle.one_entry.proofs.fill_clear_batch.Tie as tie
-use Rattle.one_entry.proofs.fill_clear_batch.Reads as reads
-use Rattle.one_entry.proofs.fill_clear_batch.Lts as lts
-use Rattle.encode.proofs.fill_clear.Reads as fill-clear-reads
-use Rattle.encode.proofs.fill_end.Reads as fill-end-reads
-use Rattle.encode.proofs.fill_start.Reads as fill-start-reads
-use Rattle.writer.proofs.checksum_of.Reads as checksum-of-reads
 
 fill-start-requires : tie.Need-fill-start-requires
 fill-start-requires c κs = search needs

@@ -15,12 +15,6 @@ use mathlib.Core.Path.{_≡_, sym, ap, _∙_}
 use borrow.Author.Needs.{needs}
 use Rattle.one_entry.proofs.write_clear.Statement.{statement}
 use Rattle.one_entry.proofs.write_clear.Tie as tie
-use Rattle.one_entry.proofs.write_clear.Reads as reads
-use Rattle.one_entry.proofs.write_clear.Lts as lts
-use Rattle.one_entry.proofs.fill_clear_batch.Reads as fill-clear-batch-reads
-use Rattle.one_entry.proofs.write_refusal.Reads as write-refusal-reads
-use Rattle.writer.proofs.outside.Reads as outside-reads
-use Rattle.writer.proofs.refused.Reads as refused-reads
 
 write-refusal-requires : tie.Need-write-refusal-requires
 write-refusal-requires c κs = search needs

@@ -16,14 +16,6 @@ use mathlib.Core.Path.{_≡_, sym, ap, _∙_}
 use borrow.Author.Needs.{needs}
 use Rattle.one_entry.proofs.write_raw.Statement.{statement}
 use Rattle.one_entry.proofs.write_raw.Tie as tie
-use Rattle.one_entry.proofs.write_raw.Reads as reads
-use Rattle.one_entry.proofs.write_raw.Lts as lts
-use Rattle.dialect.proofs.Dialect.code.Reads as code-reads
-use Rattle.one_entry.proofs.fill_item_batch.Reads as fill-item-batch-reads
-use Rattle.one_entry.proofs.write_refusal.Reads as write-refusal-reads
-use Rattle.refusal.proofs.long_key.Reads as long-key-reads
-use Rattle.writer.proofs.outside.Reads as outside-reads
-use Rattle.writer.proofs.refused.Reads as refused-reads
 
 long-key-requires : tie.Need-long-key-requires
 long-key-requires c κs = search needs

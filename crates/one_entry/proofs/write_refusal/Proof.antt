@@ -5,12 +5,6 @@ use mathlib.Core.Path.{_≡_}
 use borrow.Author.Needs.{needs}
 use Rattle.one_entry.proofs.write_refusal.Statement.{statement}
 use Rattle.one_entry.proofs.write_refusal.Tie as tie
-use Rattle.one_entry.proofs.write_refusal.Reads as reads
-use Rattle.one_entry.proofs.write_refusal.Lts as lts
-use Rattle.refusal.proofs.first.Reads as first-reads
-use Rattle.refusal.proofs.lacks.Reads as lacks-reads
-use Rattle.refusal.proofs.when.Reads as when-reads
-use Rattle.writer.proofs.shared_refusal.Reads as shared-refusal-reads
 
 shared-refusal-requires : tie.Need-shared-refusal-requires
 shared-refusal-requires c κs = search needs

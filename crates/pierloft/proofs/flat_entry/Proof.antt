@@ -2,14 +2,6 @@ use mathlib.Core.Path.{_∙_}
 use borrow.Author.Needs.{needs}
 use Rattle.pierloft.proofs.flat_entry.Statement.{statement}
 use Rattle.pierloft.proofs.flat_entry.Tie as tie
-use Rattle.pierloft.proofs.flat_entry.Reads as reads
-use Rattle.pierloft.proofs.flat_entry.Lts as lts
-use Rattle.pierloft.proofs.flat_clear.Reads as flat-clear-reads
-use Rattle.pierloft.proofs.flat_end.Reads as flat-end-reads
-use Rattle.pierloft.proofs.flat_item.Reads as flat-item-reads
-use Rattle.pierloft.proofs.flat_start.Reads as flat-start-reads
-use Rattle.pierloft.proofs.no_entry.Reads as no-entry-reads
-use Rattle.pierloft.proofs.type_number.Reads as type-number-reads
 
 enum-known-e : tie.Need-enum-known-e
 enum-known-e c = search needs

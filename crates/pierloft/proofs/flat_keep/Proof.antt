@@ -1,8 +1,6 @@
 use borrow.Author.Needs.{needs}
 use Rattle.pierloft.proofs.flat_keep.Statement.{statement}
 use Rattle.pierloft.proofs.flat_keep.Tie as tie
-use Rattle.pierloft.proofs.flat_keep.Reads as reads
-use Rattle.pierloft.proofs.flat_keep.Lts as lts
 
 enum-known-k : tie.Need-enum-known-k
 enum-known-k c = search needs

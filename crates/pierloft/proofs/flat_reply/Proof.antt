@@ -1,9 +1,6 @@
 use borrow.Author.Needs.{needs}
 use Rattle.pierloft.proofs.flat_reply.Statement.{statement}
 use Rattle.pierloft.proofs.flat_reply.Tie as tie
-use Rattle.pierloft.proofs.flat_reply.Reads as reads
-use Rattle.pierloft.proofs.flat_reply.Lts as lts
-use Rattle.pierloft.proofs.flat_writer.Reads as flat-writer-reads
 
 enum-known-answer : tie.Need-enum-known-answer
 enum-known-answer c = search needs

@@ -2,10 +2,6 @@ use mathlib.Core.Path.{_∙_}
 use borrow.Author.Needs.{needs}
 use Rattle.pierloft.proofs.flat_stepped.Statement.{statement}
 use Rattle.pierloft.proofs.flat_stepped.Tie as tie
-use Rattle.pierloft.proofs.flat_stepped.Reads as reads
-use Rattle.pierloft.proofs.flat_stepped.Lts as lts
-use Rattle.pierloft.proofs.flat_reader.Reads as flat-reader-reads
-use Rattle.pierloft.proofs.no_batch.Reads as no-batch-reads
 
 enum-known-answer : tie.Need-enum-known-answer
 enum-known-answer c = search needs

@@ -1,8 +1,6 @@
 use borrow.Author.Needs.{needs}
 use Rattle.pierloft.proofs.flat_written.Statement.{statement}
 use Rattle.pierloft.proofs.flat_written.Tie as tie
-use Rattle.pierloft.proofs.flat_written.Reads as reads
-use Rattle.pierloft.proofs.flat_written.Lts as lts
 
 enum-known-a : tie.Need-enum-known-a
 enum-known-a c = search needs

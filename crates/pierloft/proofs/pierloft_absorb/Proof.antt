@@ -1,11 +1,6 @@
 use borrow.Author.Needs.{needs}
 use Rattle.pierloft.proofs.pierloft_absorb.Statement.{statement}
 use Rattle.pierloft.proofs.pierloft_absorb.Tie as tie
-use Rattle.pierloft.proofs.pierloft_absorb.Reads as reads
-use Rattle.pierloft.proofs.pierloft_absorb.Lts as lts
-use Rattle.pierloft.proofs.flat_absorbed.Reads as flat-absorbed-reads
-use Rattle.pierloft.proofs.hasher_of.Reads as hasher-of-reads
-use Rattle.stream.proofs.absorb.Reads as absorb-reads
 
 hasher-of-requires : tie.Need-hasher-of-requires
 hasher-of-requires c κs = search needs

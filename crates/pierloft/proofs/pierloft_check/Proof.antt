@@ -1,11 +1,6 @@
 use borrow.Author.Needs.{needs}
 use Rattle.pierloft.proofs.pierloft_check.Statement.{statement}
 use Rattle.pierloft.proofs.pierloft_check.Tie as tie
-use Rattle.pierloft.proofs.pierloft_check.Reads as reads
-use Rattle.pierloft.proofs.pierloft_check.Lts as lts
-use Rattle.dialect.proofs.Dialect.is_good.Reads as is-good-reads
-use Rattle.pierloft.proofs.dialect_of.Reads as dialect-of-reads
-use Rattle.refusal.proofs.when.Reads as when-reads
 
 dialect-of-requires : tie.Need-dialect-of-requires
 dialect-of-requires c κs = search needs

@@ -1,12 +1,6 @@
 use borrow.Author.Needs.{needs}
 use Rattle.pierloft.proofs.pierloft_close.Statement.{statement}
 use Rattle.pierloft.proofs.pierloft_close.Tie as tie
-use Rattle.pierloft.proofs.pierloft_close.Reads as reads
-use Rattle.pierloft.proofs.pierloft_close.Lts as lts
-use Rattle.pierloft.proofs.dialect_of.Reads as dialect-of-reads
-use Rattle.pierloft.proofs.flat_reply.Reads as flat-reply-reads
-use Rattle.pierloft.proofs.writer_of.Reads as writer-of-reads
-use Rattle.writer.proofs.close.Reads as close-reads
 
 dialect-of-requires : tie.Need-dialect-of-requires
 dialect-of-requires c κs = search needs

@@ -1,11 +1,6 @@
 use borrow.Author.Needs.{needs}
 use Rattle.pierloft.proofs.pierloft_encode_end.Statement.{statement}
 use Rattle.pierloft.proofs.pierloft_encode_end.Tie as tie
-use Rattle.pierloft.proofs.pierloft_encode_end.Reads as reads
-use Rattle.pierloft.proofs.pierloft_encode_end.Lts as lts
-use Rattle.encode.proofs.encode_end.Reads as encode-end-reads
-use Rattle.pierloft.proofs.dialect_of.Reads as dialect-of-reads
-use Rattle.pierloft.proofs.flat_written.Reads as flat-written-reads
 
 dialect-of-requires : tie.Need-dialect-of-requires
 dialect-of-requires c κs = search needs

@@ -3,12 +3,6 @@ use Rattle.pierloft.specs.Flat.{typedCount, typedBytes}
 use borrow.Author.Needs.{needs}
 use Rattle.pierloft.proofs.pierloft_encode_item.Statement.{statement}
 use Rattle.pierloft.proofs.pierloft_encode_item.Tie as tie
-use Rattle.pierloft.proofs.pierloft_encode_item.Reads as reads
-use Rattle.pierloft.proofs.pierloft_encode_item.Lts as lts
-use Rattle.encode.proofs.encode_item.Reads as encode-item-reads
-use Rattle.pierloft.proofs.dialect_of.Reads as dialect-of-reads
-use Rattle.pierloft.proofs.flat_written.Reads as flat-written-reads
-use Rattle.pierloft.proofs.type_of.Reads as type-of-reads
 
 returns : tie.Need-returns
 unfolding typedCount typedBytes

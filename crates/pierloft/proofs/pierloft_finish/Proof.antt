@@ -1,11 +1,6 @@
 use borrow.Author.Needs.{needs}
 use Rattle.pierloft.proofs.pierloft_finish.Statement.{statement}
 use Rattle.pierloft.proofs.pierloft_finish.Tie as tie
-use Rattle.pierloft.proofs.pierloft_finish.Reads as reads
-use Rattle.pierloft.proofs.pierloft_finish.Lts as lts
-use Rattle.pierloft.proofs.flat_hash.Reads as flat-hash-reads
-use Rattle.pierloft.proofs.hasher_of.Reads as hasher-of-reads
-use Rattle.stream.proofs.finish.Reads as finish-reads
 
 hasher-of-requires : tie.Need-hasher-of-requires
 hasher-of-requires c κs = search needs

@@ -1,10 +1,6 @@
 use borrow.Author.Needs.{needs}
 use Rattle.pierloft.proofs.pierloft_hasher_new.Statement.{statement}
 use Rattle.pierloft.proofs.pierloft_hasher_new.Tie as tie
-use Rattle.pierloft.proofs.pierloft_hasher_new.Reads as reads
-use Rattle.pierloft.proofs.pierloft_hasher_new.Lts as lts
-use Rattle.pierloft.proofs.flat_hasher.Reads as flat-hasher-reads
-use Rattle.stream.proofs.Hasher.new.Reads as new-reads
 
 new-requires : tie.Need-new-requires
 new-requires c κs = search needs

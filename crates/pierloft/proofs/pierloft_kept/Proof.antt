@@ -1,11 +1,6 @@
 use borrow.Author.Needs.{needs}
 use Rattle.pierloft.proofs.pierloft_kept.Statement.{statement}
 use Rattle.pierloft.proofs.pierloft_kept.Tie as tie
-use Rattle.pierloft.proofs.pierloft_kept.Reads as reads
-use Rattle.pierloft.proofs.pierloft_kept.Lts as lts
-use Rattle.pierloft.proofs.flat_keep.Reads as flat-keep-reads
-use Rattle.pierloft.proofs.reader_of.Reads as reader-of-reads
-use Rattle.reader.proofs.kept.Reads as kept-reads
 
 reader-of-requires : tie.Need-reader-of-requires
 reader-of-requires c κs = search needs

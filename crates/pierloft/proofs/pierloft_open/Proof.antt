@@ -1,12 +1,6 @@
 use borrow.Author.Needs.{needs}
 use Rattle.pierloft.proofs.pierloft_open.Statement.{statement}
 use Rattle.pierloft.proofs.pierloft_open.Tie as tie
-use Rattle.pierloft.proofs.pierloft_open.Reads as reads
-use Rattle.pierloft.proofs.pierloft_open.Lts as lts
-use Rattle.pierloft.proofs.dialect_of.Reads as dialect-of-reads
-use Rattle.pierloft.proofs.flat_reply.Reads as flat-reply-reads
-use Rattle.pierloft.proofs.writer_of.Reads as writer-of-reads
-use Rattle.writer.proofs.open.Reads as open-reads
 
 dialect-of-requires : tie.Need-dialect-of-requires
 dialect-of-requires c κs = search needs

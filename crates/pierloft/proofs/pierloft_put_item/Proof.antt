@@ -3,13 +3,6 @@ use Rattle.pierloft.specs.Flat.{typedReply, typedBytes}
 use borrow.Author.Needs.{needs}
 use Rattle.pierloft.proofs.pierloft_put_item.Statement.{statement}
 use Rattle.pierloft.proofs.pierloft_put_item.Tie as tie
-use Rattle.pierloft.proofs.pierloft_put_item.Reads as reads
-use Rattle.pierloft.proofs.pierloft_put_item.Lts as lts
-use Rattle.pierloft.proofs.dialect_of.Reads as dialect-of-reads
-use Rattle.pierloft.proofs.flat_reply.Reads as flat-reply-reads
-use Rattle.pierloft.proofs.type_of.Reads as type-of-reads
-use Rattle.pierloft.proofs.writer_of.Reads as writer-of-reads
-use Rattle.writer.proofs.put_item.Reads as put-item-reads
 
 returns : tie.Need-returns
 unfolding typedReply typedBytes

@@ -1,10 +1,6 @@
 use borrow.Author.Needs.{needs}
 use Rattle.pierloft.proofs.pierloft_shipped.Statement.{statement}
 use Rattle.pierloft.proofs.pierloft_shipped.Tie as tie
-use Rattle.pierloft.proofs.pierloft_shipped.Reads as reads
-use Rattle.pierloft.proofs.pierloft_shipped.Lts as lts
-use Rattle.dialect.proofs.Dialect.shipped.Reads as shipped-reads
-use Rattle.pierloft.proofs.flat_dialect.Reads as flat-dialect-reads
 
 shipped-requires : tie.Need-shipped-requires
 shipped-requires c κs = search needs

@@ -1,12 +1,6 @@
 use borrow.Author.Needs.{needs}
 use Rattle.pierloft.proofs.pierloft_step.Statement.{statement}
 use Rattle.pierloft.proofs.pierloft_step.Tie as tie
-use Rattle.pierloft.proofs.pierloft_step.Reads as reads
-use Rattle.pierloft.proofs.pierloft_step.Lts as lts
-use Rattle.pierloft.proofs.dialect_of.Reads as dialect-of-reads
-use Rattle.pierloft.proofs.flat_stepped.Reads as flat-stepped-reads
-use Rattle.pierloft.proofs.reader_of.Reads as reader-of-reads
-use Rattle.reader.proofs.step.Reads as step-reads
 
 reader-of-requires : tie.Need-reader-of-requires
 reader-of-requires c κs = search needs

@@ -1,10 +1,6 @@
 use borrow.Author.Needs.{needs}
 use Rattle.pierloft.proofs.pierloft_test.Statement.{statement}
 use Rattle.pierloft.proofs.pierloft_test.Tie as tie
-use Rattle.pierloft.proofs.pierloft_test.Reads as reads
-use Rattle.pierloft.proofs.pierloft_test.Lts as lts
-use Rattle.dialect.proofs.Dialect.test.Reads as test-reads
-use Rattle.pierloft.proofs.flat_dialect.Reads as flat-dialect-reads
 
 test-requires : tie.Need-test-requires
 test-requires c κs = search needs

@@ -1,12 +1,6 @@
 use borrow.Author.Needs.{needs}
 use Rattle.pierloft.proofs.pierloft_write_clear.Statement.{statement}
 use Rattle.pierloft.proofs.pierloft_write_clear.Tie as tie
-use Rattle.pierloft.proofs.pierloft_write_clear.Reads as reads
-use Rattle.pierloft.proofs.pierloft_write_clear.Lts as lts
-use Rattle.one_entry.proofs.write_clear.Reads as write-clear-reads
-use Rattle.pierloft.proofs.dialect_of.Reads as dialect-of-reads
-use Rattle.pierloft.proofs.flat_reply.Reads as flat-reply-reads
-use Rattle.pierloft.proofs.writer_of.Reads as writer-of-reads
 
 dialect-of-requires : tie.Need-dialect-of-requires
 dialect-of-requires c κs = search needs

@@ -3,13 +3,6 @@ use Rattle.pierloft.specs.Flat.{typedReply, typedBytes}
 use borrow.Author.Needs.{needs}
 use Rattle.pierloft.proofs.pierloft_write_raw.Statement.{statement}
 use Rattle.pierloft.proofs.pierloft_write_raw.Tie as tie
-use Rattle.pierloft.proofs.pierloft_write_raw.Reads as reads
-use Rattle.pierloft.proofs.pierloft_write_raw.Lts as lts
-use Rattle.one_entry.proofs.write_raw.Reads as write-raw-reads
-use Rattle.pierloft.proofs.dialect_of.Reads as dialect-of-reads
-use Rattle.pierloft.proofs.flat_reply.Reads as flat-reply-reads
-use Rattle.pierloft.proofs.type_of.Reads as type-of-reads
-use Rattle.pierloft.proofs.writer_of.Reads as writer-of-reads
 
 returns : tie.Need-returns
 unfolding typedReply typedBytes

@@ -1,10 +1,6 @@
 use borrow.Author.Needs.{needs}
 use Rattle.pierloft.proofs.pierloft_xxh3_64.Statement.{statement}
 use Rattle.pierloft.proofs.pierloft_xxh3_64.Tie as tie
-use Rattle.pierloft.proofs.pierloft_xxh3_64.Reads as reads
-use Rattle.pierloft.proofs.pierloft_xxh3_64.Lts as lts
-use Rattle.pierloft.proofs.flat_hash.Reads as flat-hash-reads
-use Rattle.xxh3.proofs.xxh3_64.Reads as xxh3-64-reads
 
 xxh3-64-requires : tie.Need-xxh3-64-requires
 xxh3-64-requires c κs = search needs

@@ -2,8 +2,6 @@ use borrow.Author.Tests.{eq-eqb, ne-eqb}
 use Rattle.pierloft.specs.Flat.{typeNumber}
 use Rattle.pierloft.proofs.type_number.Statement.{statement}
 use Rattle.pierloft.proofs.type_number.Tie as tie
-use Rattle.pierloft.proofs.type_number.Reads as reads
-use Rattle.pierloft.proofs.type_number.Lts as lts
 
 returns : tie.Need-returns
 unfolding typeNumber

@@ -2,8 +2,6 @@ use borrow.Author.Tests.{eq-eqb, ne-eqb}
 use Rattle.pierloft.specs.Flat.{typeOf}
 use Rattle.pierloft.proofs.type_of.Statement.{statement}
 use Rattle.pierloft.proofs.type_of.Tie as tie
-use Rattle.pierloft.proofs.type_of.Reads as reads
-use Rattle.pierloft.proofs.type_of.Lts as lts
 
 returns : tie.Need-returns
 unfolding typeOf

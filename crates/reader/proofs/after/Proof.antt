@@ -2,8 +2,6 @@ use Rattle.reader.specs.Reading.{after}
 use borrow.Author.Needs.{needs}
 use Rattle.reader.proofs.after.Statement.{statement}
 use Rattle.reader.proofs.after.Tie as tie
-use Rattle.reader.proofs.after.Reads as reads
-use Rattle.reader.proofs.after.Lts as lts
 
 enum-known-answer : tie.Need-enum-known-answer
 enum-known-answer c = search needs

@@ -5,10 +5,6 @@ use Rattle.reader.specs.Reading.{answered}
 use Rattle.reader.proofs.State.{step-zero, refused, taken}
 use Rattle.reader.proofs.answer_at.Statement.{statement}
 use Rattle.reader.proofs.answer_at.Tie as tie
-use Rattle.reader.proofs.answer_at.Reads as reads
-use Rattle.reader.proofs.answer_at.Lts as lts
-use Rattle.reader.proofs.batch_at.Reads as batch-at-reads
-use Rattle.reader.proofs.step_refusal.Reads as step-refusal-reads
 
 step-refusal-requires : tie.Need-step-refusal-requires
 step-refusal-requires c κs = search needs

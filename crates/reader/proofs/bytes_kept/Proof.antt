@@ -2,8 +2,6 @@ use Rattle.reader.specs.Reading.{keep}
 use borrow.Author.Tests.{eq-eqb, ne-eqb}
 use Rattle.reader.proofs.bytes_kept.Statement.{statement}
 use Rattle.reader.proofs.bytes_kept.Tie as tie
-use Rattle.reader.proofs.bytes_kept.Reads as reads
-use Rattle.reader.proofs.bytes_kept.Lts as lts
 
 returns : tie.Need-returns
 unfolding keep

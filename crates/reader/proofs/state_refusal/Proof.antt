@@ -2,12 +2,6 @@ use Rattle.reader.specs.Reading.{stateRefusal}
 use borrow.Author.Needs.{needs}
 use Rattle.reader.proofs.state_refusal.Statement.{statement}
 use Rattle.reader.proofs.state_refusal.Tie as tie
-use Rattle.reader.proofs.state_refusal.Reads as reads
-use Rattle.reader.proofs.state_refusal.Lts as lts
-use Rattle.reader.proofs.is_strange.Reads as is-strange-reads
-use Rattle.refusal.proofs.above_limit.Reads as above-limit-reads
-use Rattle.refusal.proofs.first.Reads as first-reads
-use Rattle.refusal.proofs.when.Reads as when-reads
 
 above-limit-requires : tie.Need-above-limit-requires
 above-limit-requires c κs = search needs

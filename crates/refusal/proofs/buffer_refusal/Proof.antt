@@ -2,12 +2,6 @@ use borrow.Author.Needs.{needs}
 use Rattle.refusal.specs.Refusal.{bufferRefusal}
 use Rattle.refusal.proofs.buffer_refusal.Statement.{statement}
 use Rattle.refusal.proofs.buffer_refusal.Tie as tie
-use Rattle.refusal.proofs.buffer_refusal.Reads as reads
-use Rattle.refusal.proofs.buffer_refusal.Lts as lts
-use Rattle.dialect.proofs.Dialect.is_good.Reads as is-good-reads
-use Rattle.refusal.proofs.above_limit.Reads as above-limit-reads
-use Rattle.refusal.proofs.first.Reads as first-reads
-use Rattle.refusal.proofs.when.Reads as when-reads
 
 is-good-requires : tie.Need-is-good-requires
 is-good-requires c κs = search needs

@@ -4,8 +4,6 @@ use borrow.Author.Tests.{lt-ltb}
 use Rattle.refusal.proofs.Tests.{ltb-same}
 use Rattle.refusal.proofs.lacks.Statement.{statement}
 use Rattle.refusal.proofs.lacks.Tie as tie
-use Rattle.refusal.proofs.lacks.Reads as reads
-use Rattle.refusal.proofs.lacks.Lts as lts
 
 returns : tie.Need-returns
 returns c =

@@ -2,9 +2,6 @@ use borrow.Author.Tests.{eq-eqb, ne-eqb}
 use borrow.Author.Needs.{needs}
 use Rattle.refusal.proofs.wrong_key.Statement.{statement}
 use Rattle.refusal.proofs.wrong_key.Tie as tie
-use Rattle.refusal.proofs.wrong_key.Reads as reads
-use Rattle.refusal.proofs.wrong_key.Lts as lts
-use Rattle.refusal.proofs.long_key.Reads as long-key-reads
 
 returns : tie.Need-returns
 returns c = search (needs, eq-eqb, ne-eqb)

@@ -3,10 +3,6 @@ use native.Mathlib.Omega.{arith}
 use borrow.Author.Needs.{needs}
 use Rattle.script.proofs.print_bytes.Statement.{statement}
 use Rattle.script.proofs.print_bytes.Tie as tie
-use Rattle.script.proofs.print_bytes.Reads as reads
-use Rattle.script.proofs.print_bytes.Lts as lts
-use Rattle.io.proofs.write_all.Reads as write-all-reads
-use Rattle.script.proofs.digit.Reads as digit-reads
 
 abbrev Inv-loop : tie.InvT-loop
 Inv-loop s i₀ t5 i-end i = i ≤ i-end

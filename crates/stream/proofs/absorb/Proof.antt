@@ -11,9 +11,6 @@ use Rattle.stream.specs.Calls.{absorbed}
 use borrow.Author.Needs.{needs}
 use Rattle.stream.proofs.absorb.Statement.{statement}
 use Rattle.stream.proofs.absorb.Tie as tie
-use Rattle.stream.proofs.absorb.Reads as reads
-use Rattle.stream.proofs.absorb.Lts as lts
-use Rattle.stream.proofs.absorb_with.Reads as absorb-with-reads
 
 returns : tie.Need-returns
 unfolding absorbed

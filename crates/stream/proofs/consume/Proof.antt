@@ -4,9 +4,6 @@ use Rattle.stream.specs.Stream.{consumed}
 use borrow.Author.Needs.{needs}
 use Rattle.stream.proofs.consume.Statement.{statement}
 use Rattle.stream.proofs.consume.Tie as tie
-use Rattle.stream.proofs.consume.Reads as reads
-use Rattle.stream.proofs.consume.Lts as lts
-use Rattle.xxh3.proofs.accumulate_stripes.Reads as accumulate-stripes-reads
 
 returns : tie.Need-returns
 unfolding consumed

@@ -8,9 +8,6 @@ use Rattle.stream.specs.Calls.{badTotal, finished}
 use borrow.Author.Needs.{needs}
 use Rattle.stream.proofs.finish.Statement.{statement}
 use Rattle.stream.proofs.finish.Tie as tie
-use Rattle.stream.proofs.finish.Reads as reads
-use Rattle.stream.proofs.finish.Lts as lts
-use Rattle.stream.proofs.finish_with.Reads as finish-with-reads
 
 returns : tie.Need-returns
 unfolding numberOf orSum badTotal finished

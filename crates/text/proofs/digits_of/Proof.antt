@@ -8,9 +8,6 @@ use mathlib.Core.Path.{_≡_, _∙_}
 use Prim.Native.Nat.{_≤_, _<_, _^_}
 use Rattle.text.proofs.digits_of.Statement.{statement}
 use Rattle.text.proofs.digits_of.Tie as tie
-use Rattle.text.proofs.digits_of.Reads as reads
-use Rattle.text.proofs.digits_of.Lts as lts
-use Rattle.text.proofs.digit.Reads as digit-reads
 
 abbrev Inv-loop : tie.InvT-loop
 Inv-loop n text₀ from₀ rest₀ text from rest = (from ≤ 19) × (length text ≡ 20) × (rest < 10 ^ from) × (digits from rest ++ drop from text ≡ decimal n)

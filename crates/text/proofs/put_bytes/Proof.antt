@@ -6,10 +6,6 @@ use Rattle.text.specs.Written.{named}
 use borrow.Author.Needs.{needs}
 use Rattle.text.proofs.put_bytes.Statement.{statement}
 use Rattle.text.proofs.put_bytes.Tie as tie
-use Rattle.text.proofs.put_bytes.Reads as reads
-use Rattle.text.proofs.put_bytes.Lts as lts
-use Rattle.text.proofs.put_hexadecimal.Reads as put-hexadecimal-reads
-use Rattle.text.proofs.put_word.Reads as put-word-reads
 
 slice-aggregate-put-word : tie.Need-slice-aggregate-put-word
 slice-aggregate-put-word c = search needs

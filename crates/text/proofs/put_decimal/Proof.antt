@@ -2,10 +2,6 @@ use Rattle.text.proofs.Laws.{from-place, copied}
 use borrow.Author.Needs.{needs}
 use Rattle.text.proofs.put_decimal.Statement.{statement}
 use Rattle.text.proofs.put_decimal.Tie as tie
-use Rattle.text.proofs.put_decimal.Reads as reads
-use Rattle.text.proofs.put_decimal.Lts as lts
-use Rattle.number.proofs.copy_front.Reads as copy-front-reads
-use Rattle.text.proofs.digits_of.Reads as digits-of-reads
 
 digits-of-requires : tie.Need-digits-of-requires
 digits-of-requires c κs = search needs

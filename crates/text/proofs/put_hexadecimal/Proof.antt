@@ -10,9 +10,6 @@ use mathlib.Core.Path.{_≡_, refl, ap}
 use Prim.Native.Nat.{_≤_, _-_, _+_}
 use Rattle.text.proofs.put_hexadecimal.Statement.{statement}
 use Rattle.text.proofs.put_hexadecimal.Tie as tie
-use Rattle.text.proofs.put_hexadecimal.Reads as reads
-use Rattle.text.proofs.put_hexadecimal.Lts as lts
-use Rattle.text.proofs.digit.Reads as digit-reads
 
 abbrev Inv-loop : tie.InvT-loop
 Inv-loop out₀ s at₀ i₀ out at i = (i ≤ length s) × (length out ≡ length out₀) × (at ≡ i + i) × Written (hexadecimal (take i s)) out₀ out at

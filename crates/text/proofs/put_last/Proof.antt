@@ -4,10 +4,6 @@ use lib.ListN.{length-append}
 use borrow.Author.Needs.{needs}
 use Rattle.text.proofs.put_last.Statement.{statement}
 use Rattle.text.proofs.put_last.Tie as tie
-use Rattle.text.proofs.put_last.Reads as reads
-use Rattle.text.proofs.put_last.Lts as lts
-use Rattle.text.proofs.put_named.Reads as put-named-reads
-use Rattle.text.proofs.put_word.Reads as put-word-reads
 
 put-named-requires : tie.Need-put-named-requires
 put-named-requires c κs = search needs

@@ -2,10 +2,6 @@ use Rattle.text.specs.Written.{then}
 use borrow.Author.Needs.{needs}
 use Rattle.text.proofs.put_named.Statement.{statement}
 use Rattle.text.proofs.put_named.Tie as tie
-use Rattle.text.proofs.put_named.Reads as reads
-use Rattle.text.proofs.put_named.Lts as lts
-use Rattle.text.proofs.put_decimal.Reads as put-decimal-reads
-use Rattle.text.proofs.put_word.Reads as put-word-reads
 
 put-word-requires : tie.Need-put-word-requires
 put-word-requires c κs = search needs

@@ -6,10 +6,6 @@ use Rattle.text.specs.Written.{room, then, named}
 use borrow.Author.Needs.{needs}
 use Rattle.text.proofs.put_three.Statement.{statement}
 use Rattle.text.proofs.put_three.Tie as tie
-use Rattle.text.proofs.put_three.Reads as reads
-use Rattle.text.proofs.put_three.Lts as lts
-use Rattle.text.proofs.put_last.Reads as put-last-reads
-use Rattle.text.proofs.put_named.Reads as put-named-reads
 
 put-named-requires : tie.Need-put-named-requires
 put-named-requires c κs = search needs

@@ -4,11 +4,6 @@ use Prim.Native.Nat.{_≤_, _-_}
 use borrow.Author.Needs.{needs}
 use Rattle.vectors.proofs.absorb_in_pieces.Statement.{statement}
 use Rattle.vectors.proofs.absorb_in_pieces.Tie as tie
-use Rattle.vectors.proofs.absorb_in_pieces.Reads as reads
-use Rattle.vectors.proofs.absorb_in_pieces.Lts as lts
-use Rattle.stream.proofs.Hasher.new.Reads as new-reads
-use Rattle.stream.proofs.absorb.Reads as absorb-reads
-use Rattle.vectors.proofs.piece_end.Reads as piece-end-reads
 
 abbrev Inv-loop : tie.InvT-loop
 Inv-loop s cut h₀ i₀ h i = i ≤ length s

@@ -5,9 +5,6 @@ use Prim.Native.Nat.{_≤_, _-_}
 use borrow.Author.Needs.{needs}
 use Rattle.vectors.proofs.fill_made.Statement.{statement}
 use Rattle.vectors.proofs.fill_made.Tie as tie
-use Rattle.vectors.proofs.fill_made.Reads as reads
-use Rattle.vectors.proofs.fill_made.Lts as lts
-use Rattle.number.proofs.mul64.Reads as mul64-reads
 
 abbrev Inv-loop : tie.InvT-loop
 Inv-loop buf₀ word₀ i₀ buf word i = (i ≤ length buf₀) × (length buf ≡ length buf₀)

@@ -3,9 +3,6 @@ use Prim.Native.Nat.{_≤_, _-_}
 use borrow.Author.Needs.{needs}
 use Rattle.vectors.proofs.print_short.Statement.{statement}
 use Rattle.vectors.proofs.print_short.Tie as tie
-use Rattle.vectors.proofs.print_short.Reads as reads
-use Rattle.vectors.proofs.print_short.Lts as lts
-use Rattle.vectors.proofs.print_line.Reads as print-line-reads
 
 abbrev Inv-loop : tie.InvT-loop
 Inv-loop s n₀ n = n ≤ 301

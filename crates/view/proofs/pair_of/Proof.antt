@@ -1,14 +1,10 @@
 use Rattle.entry.proofs.Tags.{not-item}
 use Rattle.view.proofs.Laws.{no-pair}
 use Rattle.view.specs.View.{noPair}
-use Prim.Native.Nat.{ℕ}
-use mathlib.Core.Path.{refl, sym, ap, _∙_}
+use mathlib.Core.Path.{ap, _∙_}
 use borrow.Author.Needs.{needs}
 use Rattle.view.proofs.pair_of.Statement.{statement}
 use Rattle.view.proofs.pair_of.Tie as tie
-use Rattle.view.proofs.pair_of.Reads as reads
-use Rattle.view.proofs.pair_of.Lts as lts
-use Rattle.view.proofs.item_number.Reads as item-number-reads
 
 enum-known-e : tie.Need-enum-known-e
 enum-known-e c = search needs

@@ -2,9 +2,6 @@ use Rattle.xxh3.specs.Xxh3.{defaultSecret}
 use borrow.Author.Needs.{needs}
 use Rattle.writer.proofs.checksum_of.Statement.{statement}
 use Rattle.writer.proofs.checksum_of.Tie as tie
-use Rattle.writer.proofs.checksum_of.Reads as reads
-use Rattle.writer.proofs.checksum_of.Lts as lts
-use Rattle.xxh3.proofs.hash_of.Reads as hash-of-reads
 
 slice-aggregate-hash-of : tie.Need-slice-aggregate-hash-of
 slice-aggregate-hash-of c = search needs

@@ -13,13 +13,6 @@ use mathlib.Core.Path.{sym, ap, _∙_}
 use borrow.Author.Needs.{needs}
 use Rattle.writer.proofs.close.Statement.{statement}
 use Rattle.writer.proofs.close.Tie as tie
-use Rattle.writer.proofs.close.Reads as reads
-use Rattle.writer.proofs.close.Lts as lts
-use Rattle.encode.proofs.fill_end.Reads as fill-end-reads
-use Rattle.writer.proofs.checksum_of.Reads as checksum-of-reads
-use Rattle.writer.proofs.close_refusal.Reads as close-refusal-reads
-use Rattle.writer.proofs.outside.Reads as outside-reads
-use Rattle.writer.proofs.refused.Reads as refused-reads
 
 close-refusal-requires : tie.Need-close-refusal-requires
 close-refusal-requires c κs = search needs

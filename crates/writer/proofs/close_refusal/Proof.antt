@@ -5,12 +5,6 @@ use mathlib.Core.Path.{_≡_}
 use borrow.Author.Needs.{needs}
 use Rattle.writer.proofs.close_refusal.Statement.{statement}
 use Rattle.writer.proofs.close_refusal.Tie as tie
-use Rattle.writer.proofs.close_refusal.Reads as reads
-use Rattle.writer.proofs.close_refusal.Lts as lts
-use Rattle.refusal.proofs.first.Reads as first-reads
-use Rattle.refusal.proofs.lacks.Reads as lacks-reads
-use Rattle.refusal.proofs.when.Reads as when-reads
-use Rattle.writer.proofs.shared_refusal.Reads as shared-refusal-reads
 
 shared-refusal-requires : tie.Need-shared-refusal-requires
 shared-refusal-requires c κs = search needs

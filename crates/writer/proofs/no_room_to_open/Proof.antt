@@ -8,9 +8,6 @@ use mathlib.Core.Path.{_≡_, ap, _∙_}
 use borrow.Author.Needs.{needs}
 use Rattle.writer.proofs.no_room_to_open.Statement.{statement}
 use Rattle.writer.proofs.no_room_to_open.Tie as tie
-use Rattle.writer.proofs.no_room_to_open.Reads as reads
-use Rattle.writer.proofs.no_room_to_open.Lts as lts
-use Rattle.refusal.proofs.lacks.Reads as lacks-reads
 
 returns : tie.Need-returns
 returns c = simp (eq-eqb (c .before .args .count) 0 (c .if1 .taken))

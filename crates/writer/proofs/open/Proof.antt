@@ -10,13 +10,6 @@ use mathlib.Core.Path.{sym, _∙_}
 use borrow.Author.Needs.{needs}
 use Rattle.writer.proofs.open.Statement.{statement}
 use Rattle.writer.proofs.open.Tie as tie
-use Rattle.writer.proofs.open.Reads as reads
-use Rattle.writer.proofs.open.Lts as lts
-use Rattle.encode.proofs.fill_start.Reads as fill-start-reads
-use Rattle.writer.proofs.idle.Reads as idle-reads
-use Rattle.writer.proofs.inside.Reads as inside-reads
-use Rattle.writer.proofs.open_refusal.Reads as open-refusal-reads
-use Rattle.writer.proofs.refused.Reads as refused-reads
 
 open-refusal-requires : tie.Need-open-refusal-requires
 open-refusal-requires c κs = search needs

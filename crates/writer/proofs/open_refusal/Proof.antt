@@ -2,13 +2,6 @@ use Rattle.writer.specs.Writing.{openRefusal}
 use borrow.Author.Needs.{needs}
 use Rattle.writer.proofs.open_refusal.Statement.{statement}
 use Rattle.writer.proofs.open_refusal.Tie as tie
-use Rattle.writer.proofs.open_refusal.Reads as reads
-use Rattle.writer.proofs.open_refusal.Lts as lts
-use Rattle.refusal.proofs.above_limit.Reads as above-limit-reads
-use Rattle.refusal.proofs.first.Reads as first-reads
-use Rattle.refusal.proofs.when.Reads as when-reads
-use Rattle.writer.proofs.no_room_to_open.Reads as no-room-to-open-reads
-use Rattle.writer.proofs.shared_refusal.Reads as shared-refusal-reads
 
 shared-refusal-requires : tie.Need-shared-refusal-requires
 shared-refusal-requires c κs = search needs

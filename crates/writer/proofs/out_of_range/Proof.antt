@@ -5,8 +5,6 @@ use borrow.Author.Tests.{lt-ltb, le-ltb}
 use Prim.Native.Nat.{_+_, _<_, _≤_}
 use Rattle.writer.proofs.out_of_range.Statement.{statement}
 use Rattle.writer.proofs.out_of_range.Tie as tie
-use Rattle.writer.proofs.out_of_range.Reads as reads
-use Rattle.writer.proofs.out_of_range.Lts as lts
 
 returns : tie.Need-returns
 unfolding outOfRange

@@ -11,12 +11,6 @@ use mathlib.Core.Path.{_≡_, sym, ap, _∙_}
 use borrow.Author.Needs.{needs}
 use Rattle.writer.proofs.put_clear.Statement.{statement}
 use Rattle.writer.proofs.put_clear.Tie as tie
-use Rattle.writer.proofs.put_clear.Reads as reads
-use Rattle.writer.proofs.put_clear.Lts as lts
-use Rattle.encode.proofs.fill_clear.Reads as fill-clear-reads
-use Rattle.writer.proofs.inside.Reads as inside-reads
-use Rattle.writer.proofs.put_refusal.Reads as put-refusal-reads
-use Rattle.writer.proofs.refused.Reads as refused-reads
 
 put-refusal-requires : tie.Need-put-refusal-requires
 put-refusal-requires c κs = search needs

@@ -13,14 +13,6 @@ use mathlib.Core.Path.{_≡_, sym, ap, _∙_}
 use borrow.Author.Needs.{needs}
 use Rattle.writer.proofs.put_item.Statement.{statement}
 use Rattle.writer.proofs.put_item.Tie as tie
-use Rattle.writer.proofs.put_item.Reads as reads
-use Rattle.writer.proofs.put_item.Lts as lts
-use Rattle.dialect.proofs.Dialect.code.Reads as code-reads
-use Rattle.encode.proofs.fill_item.Reads as fill-item-reads
-use Rattle.refusal.proofs.wrong_key.Reads as wrong-key-reads
-use Rattle.writer.proofs.inside.Reads as inside-reads
-use Rattle.writer.proofs.put_refusal.Reads as put-refusal-reads
-use Rattle.writer.proofs.refused.Reads as refused-reads
 
 wrong-key-requires : tie.Need-wrong-key-requires
 wrong-key-requires c κs = search needs

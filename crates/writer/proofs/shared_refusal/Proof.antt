@@ -2,12 +2,6 @@ use Rattle.writer.specs.Writing.{sharedRefusal}
 use borrow.Author.Needs.{needs}
 use Rattle.writer.proofs.shared_refusal.Statement.{statement}
 use Rattle.writer.proofs.shared_refusal.Tie as tie
-use Rattle.writer.proofs.shared_refusal.Reads as reads
-use Rattle.writer.proofs.shared_refusal.Lts as lts
-use Rattle.refusal.proofs.buffer_refusal.Reads as buffer-refusal-reads
-use Rattle.refusal.proofs.first.Reads as first-reads
-use Rattle.refusal.proofs.when.Reads as when-reads
-use Rattle.writer.proofs.out_of_range.Reads as out-of-range-reads
 
 buffer-refusal-requires : tie.Need-buffer-refusal-requires
 buffer-refusal-requires c κs = search needs

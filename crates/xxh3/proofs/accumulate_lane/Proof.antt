@@ -3,11 +3,6 @@ use Rattle.xxh3.specs.Xxh3.{lane}
 use borrow.Author.Needs.{needs}
 use Rattle.xxh3.proofs.accumulate_lane.Statement.{statement}
 use Rattle.xxh3.proofs.accumulate_lane.Tie as tie
-use Rattle.xxh3.proofs.accumulate_lane.Reads as reads
-use Rattle.xxh3.proofs.accumulate_lane.Lts as lts
-use Rattle.number.proofs.add64.Reads as add64-reads
-use Rattle.number.proofs.read_u64_le.Reads as read-u64-le-reads
-use Rattle.xxh3.proofs.halves.Reads as halves-reads
 
 mul-read-u64-le : tie.Need-mul-read-u64-le
 mul-read-u64-le c = search needs

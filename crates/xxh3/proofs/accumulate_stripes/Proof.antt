@@ -8,10 +8,6 @@ use Rattle.xxh3.specs.Stripes.{stripes, blockEnd}
 use Rattle.xxh3.proofs.Loops.{stripes-turn, stripes-done}
 use Rattle.xxh3.proofs.accumulate_stripes.Statement.{statement}
 use Rattle.xxh3.proofs.accumulate_stripes.Tie as tie
-use Rattle.xxh3.proofs.accumulate_stripes.Reads as reads
-use Rattle.xxh3.proofs.accumulate_stripes.Lts as lts
-use Rattle.xxh3.proofs.block_end.Reads as block-end-reads
-use Rattle.xxh3.proofs.accumulate.Reads as accumulate-reads
 
 abbrev Inv-loop : tie.InvT-loop
 Inv-loop k s m i t acc₀ left₀ at₀ count₀ acc left at count = (at + left * 64 ≤ length s) × (count + left ≡ t + m) × (stripes k s left at count acc ≡ stripes k s m i t acc₀)

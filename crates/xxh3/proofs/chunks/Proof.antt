@@ -8,10 +8,6 @@ use Rattle.xxh3.specs.Xxh3.{chunks}
 use Rattle.xxh3.proofs.Loops.{chunks-turn, chunks-done}
 use Rattle.xxh3.proofs.chunks.Statement.{statement}
 use Rattle.xxh3.proofs.chunks.Tie as tie
-use Rattle.xxh3.proofs.chunks.Reads as reads
-use Rattle.xxh3.proofs.chunks.Lts as lts
-use Rattle.number.proofs.add64.Reads as add64-reads
-use Rattle.xxh3.proofs.mix_step.Reads as mix-step-reads
 
 abbrev Inv-loop : tie.InvT-loop
 Inv-loop k s m i j a acc₀ left₀ at₀ key₀ acc left at key = (at + left * 16 ≤ length s) × (key + left * 16 ≤ length k) × (chunks k s left at key acc ≡ chunks k s m i j a)

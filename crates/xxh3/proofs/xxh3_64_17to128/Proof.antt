@@ -7,12 +7,6 @@ use Rattle.xxh3.specs.Xxh3.{rounds17to128, xxh3-64-17to128}
 use Rattle.xxh3.proofs.Loops.{rounds-turn, rounds-done}
 use Rattle.xxh3.proofs.xxh3_64_17to128.Statement.{statement}
 use Rattle.xxh3.proofs.xxh3_64_17to128.Tie as tie
-use Rattle.xxh3.proofs.xxh3_64_17to128.Reads as reads
-use Rattle.xxh3.proofs.xxh3_64_17to128.Lts as lts
-use Rattle.number.proofs.add64.Reads as add64-reads
-use Rattle.number.proofs.mul64.Reads as mul64-reads
-use Rattle.xxh3.proofs.avalanche.Reads as avalanche-reads
-use Rattle.xxh3.proofs.mix_step.Reads as mix-step-reads
 
 abbrev Inv-loop : tie.InvT-loop
 Inv-loop k s n acc₀ i₀ acc i = (i ≤ (n - 1) / 32 + 1) × (rounds17to128 k s i acc ≡ rounds17to128 k s i₀ acc₀)

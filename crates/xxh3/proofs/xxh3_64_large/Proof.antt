@@ -8,12 +8,6 @@ use Rattle.xxh3.specs.Stripes.{stripes, large-by-stripes}
 use borrow.Author.Needs.{needs}
 use Rattle.xxh3.proofs.xxh3_64_large.Statement.{statement}
 use Rattle.xxh3.proofs.xxh3_64_large.Tie as tie
-use Rattle.xxh3.proofs.xxh3_64_large.Reads as reads
-use Rattle.xxh3.proofs.xxh3_64_large.Lts as lts
-use Rattle.xxh3.proofs.final_merge.Reads as final-merge-reads
-use Rattle.xxh3.proofs.initial_acc.Reads as initial-acc-reads
-use Rattle.xxh3.proofs.accumulate.Reads as accumulate-reads
-use Rattle.xxh3.proofs.accumulate_stripes.Reads as accumulate-stripes-reads
 
 sub-accumulate-stripes : tie.Need-sub-accumulate-stripes
 sub-accumulate-stripes c = search needs

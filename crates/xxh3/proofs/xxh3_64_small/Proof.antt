@@ -4,12 +4,6 @@ use Rattle.xxh3.specs.Classes.{hash-empty, hash-1to3, hash-4to8, hash-9t
 use borrow.Author.Needs.{needs}
 use Rattle.xxh3.proofs.xxh3_64_small.Statement.{statement}
 use Rattle.xxh3.proofs.xxh3_64_small.Tie as tie
-use Rattle.xxh3.proofs.xxh3_64_small.Reads as reads
-use Rattle.xxh3.proofs.xxh3_64_small.Lts as lts
-use Rattle.xxh3.proofs.xxh3_64_1to3.Reads as xxh3-64-1to3-reads
-use Rattle.xxh3.proofs.xxh3_64_4to8.Reads as xxh3-64-4to8-reads
-use Rattle.xxh3.proofs.xxh3_64_9to16.Reads as xxh3-64-9to16-reads
-use Rattle.xxh3.proofs.xxh3_64_empty.Reads as xxh3-64-empty-reads
 
 xxh3-64-empty-requires : tie.Need-xxh3-64-empty-requires
 xxh3-64-empty-requires c κs = search needs

@@ -4,11 +4,6 @@ use mathlib.Core.Path.{_≡_}
 use borrow.Author.Needs.{needs}
 use Rattle.xxh3sum.proofs.absorb_input.Statement.{statement}
 use Rattle.xxh3sum.proofs.absorb_input.Tie as tie
-use Rattle.xxh3sum.proofs.absorb_input.Reads as reads
-use Rattle.xxh3sum.proofs.absorb_input.Lts as lts
-use Rattle.io.proofs.large_buffer.Reads as large-buffer-reads
-use Rattle.stream.proofs.Hasher.new.Reads as new-reads
-use Rattle.xxh3sum.proofs.turn.Reads as turn-reads
 
 abbrev Inv-loop : tie.InvT-loop
 Inv-loop buf₀ p₀ turns₀ buf p turns = length buf ≡ 65536

@@ -1,16 +1,13 @@
--- The name of a type, as the code finds it, and the room that a listing needs. Assumes nothing.
-use Prim.Native.Nat.{ℕ, _-_, _/_, _≤_, _<_}
-use mathlib.Core.Path.{_≡_, refl, sym, ap}
+-- Lines as the code puts them: the name of a type, and the pieces of a line. Assumes nothing.
+use Prim.Native.Nat.{ℕ}
+use mathlib.Core.Path.{_≡_, refl, ap}
 use mathlib.Core.Logic.{_≢_}
-use mathlib.Core.Bool.{Bool, true, false}
 use mathlib.Core.List.{List, _++_, append-assoc}
-use native.Mathlib.Omega.{arith}
-use lib.Dec.{ltb}
-use borrow.Author.Tests.{eq-eqb, ne-eqb, lt-ltb, le-ltb, ltb-true, ltb-false}
+use borrow.Author.Tests.{eq-eqb, ne-eqb}
 use Rattle.dialect.specs.declared.Dialect.{Dialect}
 use Rattle.entry.specs.Entry.{item, clear}
 use Rattle.text.specs.Text.{ascii, decimal, orDash}
-use Rattle.listing.specs.Listing.{batchLine, typeName, entryLine, roomFor}
+use Rattle.listing.specs.Listing.{batchLine, typeName, entryLine}
 
 module _ (d : Dialect) (x : ℕ) where
   pub is-value : x ≡ d .value → ascii "V" ≡ typeName d x
@@ -52,15 +49,3 @@ item-pieces d code keyspace key value = go (ascii "item ") (decimal keyspace) (a
   where
     go : (a b c d e f g h i : List ℕ) → (a ++ b) ++ (c ++ d ++ e) ++ (f ++ g ++ (h ++ i)) ≡ a ++ b ++ c ++ d ++ e ++ f ++ g ++ h ++ i
     go a b c d e f g h i = simp append-assoc
-
--- ---- room
-
-pub tight : (n room : ℕ) → room < 128 → true ≡ ltb room (roomFor n)
-tight n room h = sym (lt-ltb room (roomFor n) (omega arith))
-
-pub tight-by : (n room : ℕ) → 128 ≤ room → ltb ((room - 128) / 4) n ≡ ltb room (roomFor n)
-tight-by n room h = go (ltb ((room - 128) / 4) n) refl
-  where
-    go : (b : Bool) → ltb ((room - 128) / 4) n ≡ b → b ≡ ltb room (roomFor n)
-    go true e = let l = ltb-true ((room - 128) / 4) n e in sym (lt-ltb room (roomFor n) (omega arith))
-    go false e = let l = ltb-false ((room - 128) / 4) n e in sym (le-ltb room (roomFor n) (omega arith))
