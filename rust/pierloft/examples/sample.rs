@@ -1,0 +1,110 @@
+//! Makes the sample journals anew: claims.jnl under SHIPPED and test.jnl under TEST, each of several batches and torn at its end.
+//!
+//!     cargo run --example sample -- ../../samples
+use pierloft::{Dialect, Entry, Refusal, ValueType, Writer};
+use std::path::PathBuf;
+use std::process::ExitCode;
+
+const CLAIMS: u64 = 1;
+const RESERVES: u64 = 2;
+const PHOTOS: u64 = 3;
+const DRAFTS: u64 = 9;
+
+const fn item<'a>(
+    keyspace: u64,
+    value_type: ValueType,
+    key: &'a [u8],
+    value: &'a [u8],
+) -> Entry<'a> {
+    Entry::Item {
+        keyspace,
+        value_type,
+        key,
+        value,
+    }
+}
+
+/// A morning on the claims bus. The power fails while the last batch is written.
+pub fn claims() -> Result<Vec<u8>, Refusal> {
+    use ValueType::{Indirection, Tombstone, Value, WeakTombstone};
+    let mut buffer = [0; 1024];
+    let mut bus = Writer::new(&mut buffer, Dialect::SHIPPED);
+
+    // two claims come in, one with a reserve
+    bus.open(3, 4101)?;
+    bus.put_item(Value, CLAIMS, b"C-2081", b"open storm")?;
+    bus.put_item(Value, CLAIMS, b"C-2082", b"open fire")?;
+    bus.put_item(Value, RESERVES, b"C-2081", b"EUR 18500")?;
+    bus.close()?;
+
+    // photos that lie elsewhere, at place 8,192; a reserve that nobody has set yet
+    let place = 8192u32.to_le_bytes();
+    bus.batch(
+        4102,
+        &[
+            item(PHOTOS, Indirection, b"C-2082", &place),
+            item(RESERVES, Value, b"C-2082", b""),
+        ],
+    )?;
+
+    // an old claim is deleted, by a call of its own; so are all drafts
+    bus.write_raw(4103, Tombstone, CLAIMS, b"C-1990", b"")?;
+    bus.write_clear(4104, DRAFTS)?;
+
+    // the storm is settled: its reserve is released, the assessor's photos go
+    bus.batch(
+        4105,
+        &[
+            item(CLAIMS, Value, b"C-2081", b"settled storm"),
+            item(RESERVES, WeakTombstone, b"C-2081", b""),
+            Entry::Clear { keyspace: PHOTOS },
+        ],
+    )?;
+
+    bus.open(2, 4106)?;
+    bus.put_item(Value, CLAIMS, b"C-2083", b"open theft")?;
+    bus.put_item(Value, RESERVES, b"C-2083", b"EUR 920")?;
+    let written = bus.written();
+    Ok(written[..written.len() - 5].to_vec())
+}
+
+/// Document 01's batch of 50 bytes, a batch of every kind of entry, one Clear, and zeros where a batch might begin.
+pub fn test() -> Result<Vec<u8>, Refusal> {
+    use ValueType::{Indirection, Tombstone, Value, WeakTombstone};
+    let mut buffer = [0; 512];
+    let mut writer = Writer::new(&mut buffer, Dialect::TEST);
+    writer.write_raw(7, Value, 2, b"a", b"xy")?;
+    writer.batch(
+        8,
+        &[
+            item(2, Value, b"b", b""),
+            item(2, Tombstone, b"a", b""),
+            item(2, WeakTombstone, b"c", b""),
+            item(u64::MAX, Indirection, b"d", &[0, 255]),
+            Entry::Clear { keyspace: 3 },
+        ],
+    )?;
+    writer.write_clear(9, 2)?;
+    let end = writer.position() + 16;
+    Ok(buffer[..end].to_vec())
+}
+
+#[allow(
+    dead_code,
+    reason = "a test takes the two functions above from this file"
+)]
+fn main() -> ExitCode {
+    let Some(folder) = std::env::args_os().nth(1).map(PathBuf::from) else {
+        eprintln!("sample: wants a folder");
+        return ExitCode::from(64);
+    };
+    for (name, image) in [("claims.jnl", claims()), ("test.jnl", test())] {
+        let file = folder.join(name);
+        let image = image.expect("the buffer has room");
+        if let Err(e) = std::fs::write(&file, image) {
+            eprintln!("sample: {}: {e}", file.display());
+            return ExitCode::from(73);
+        }
+    }
+    ExitCode::SUCCESS
+}

@@ -1,0 +1,407 @@
+//! The static library's functions, made safe. All of this crate's `unsafe` is here.
+//!
+//! Why each call is sound. The functions are proved, for every argument, to do nothing undefined, to return, and to write nothing but the
+//! buffer or state that is lent `&mut`; they keep no pointer, allocate nothing and call nothing outside. So a call needs no more than what
+//! Rust's own references give: a pointer and a length that belong together (both come from one slice, never null), and a buffer lent
+//! `&mut` that nothing else lies in. What the proofs don't cover is that the declarations below are the library's: the structs and the
+//! functions' types are held to its source by the tests at the end of this file, their answers by the tests of this crate.
+#![allow(unsafe_code)]
+
+#[repr(C)]
+#[derive(Clone, Copy, Debug, PartialEq, Eq, Hash)]
+pub struct FlatDialect {
+    pub magic: [u8; 8],
+    pub length: usize,
+    pub value: u8,
+    pub tombstone: u8,
+    pub weak: u8,
+    pub indirection: u8,
+    pub none: u8,
+}
+
+#[repr(C)]
+pub struct FlatEntry {
+    pub number: u32,
+    pub tag: u8,
+    pub value_type: u8,
+    pub count: u64,
+    pub seqno: u64,
+    pub keyspace: u64,
+    pub checksum: u64,
+    pub key_at: usize,
+    pub key_len: usize,
+    pub value_at: usize,
+    pub value_len: usize,
+    pub next: usize,
+}
+
+#[repr(C)]
+#[derive(Clone, Copy, Debug, PartialEq, Eq)]
+pub struct FlatReader {
+    pub position: usize,
+    pub ended: u32,
+    pub outcome: u32,
+}
+
+#[repr(C)]
+pub struct FlatStepped {
+    pub number: u32,
+    pub accepted: u32,
+    pub outcome: u32,
+    pub seqno: u64,
+    pub count: u64,
+    pub body: usize,
+    pub end: usize,
+    pub next: usize,
+    pub reader: FlatReader,
+}
+
+#[repr(C)]
+pub struct FlatCount {
+    pub number: u32,
+    pub bytes: usize,
+}
+
+#[repr(C)]
+pub struct FlatHash {
+    pub number: u32,
+    pub hash: u64,
+}
+
+#[repr(C)]
+#[derive(Clone, Copy, Debug, PartialEq, Eq)]
+pub struct FlatHasher {
+    pub acc: [u64; 8],
+    pub hold: [u8; 256],
+    pub total: u64,
+}
+
+#[repr(C)]
+#[derive(Clone, Copy, Debug, PartialEq, Eq)]
+pub struct FlatWriter {
+    pub position: usize,
+    pub start: usize,
+    pub open: u32,
+    pub left: u64,
+}
+
+#[repr(C)]
+pub struct FlatReply {
+    pub number: u32,
+    pub bytes: usize,
+    pub writer: FlatWriter,
+}
+
+mod c {
+    use super::*;
+
+    extern "C" {
+        #[cfg(test)]
+        pub fn pierloft_shipped() -> FlatDialect;
+        #[cfg(test)]
+        pub fn pierloft_test() -> FlatDialect;
+        pub fn pierloft_check(d: FlatDialect) -> u32;
+        pub fn pierloft_decode(
+            image: *const u8,
+            image_length: usize,
+            at: usize,
+            d: FlatDialect,
+        ) -> FlatEntry;
+        pub fn pierloft_step(
+            image: *const u8,
+            image_length: usize,
+            reader: FlatReader,
+            d: FlatDialect,
+        ) -> FlatStepped;
+        pub fn pierloft_kept(length: usize, reader: FlatReader) -> FlatCount;
+        pub fn pierloft_xxh3_64(bytes: *const u8, bytes_length: usize) -> FlatHash;
+        pub fn pierloft_hasher_new() -> FlatHasher;
+        pub fn pierloft_absorb_into(
+            state: *mut FlatHasher,
+            piece: *const u8,
+            piece_length: usize,
+        ) -> u32;
+        pub fn pierloft_finish(state: FlatHasher) -> FlatHash;
+        pub fn pierloft_open(
+            buf: *mut u8,
+            buf_length: usize,
+            d: FlatDialect,
+            writer: FlatWriter,
+            count: u64,
+            seqno: u64,
+        ) -> FlatReply;
+        pub fn pierloft_put_item(
+            buf: *mut u8,
+            buf_length: usize,
+            d: FlatDialect,
+            writer: FlatWriter,
+            value_type: u8,
+            keyspace: u64,
+            key: *const u8,
+            key_length: usize,
+            value: *const u8,
+            value_length: usize,
+        ) -> FlatReply;
+        pub fn pierloft_put_clear(
+            buf: *mut u8,
+            buf_length: usize,
+            d: FlatDialect,
+            writer: FlatWriter,
+            keyspace: u64,
+        ) -> FlatReply;
+        pub fn pierloft_close(
+            buf: *mut u8,
+            buf_length: usize,
+            d: FlatDialect,
+            writer: FlatWriter,
+        ) -> FlatReply;
+        pub fn pierloft_write_raw(
+            buf: *mut u8,
+            buf_length: usize,
+            d: FlatDialect,
+            writer: FlatWriter,
+            seqno: u64,
+            value_type: u8,
+            keyspace: u64,
+            key: *const u8,
+            key_length: usize,
+            value: *const u8,
+            value_length: usize,
+        ) -> FlatReply;
+        pub fn pierloft_write_clear(
+            buf: *mut u8,
+            buf_length: usize,
+            d: FlatDialect,
+            writer: FlatWriter,
+            seqno: u64,
+            keyspace: u64,
+        ) -> FlatReply;
+    }
+}
+
+#[inline]
+pub fn check(dialect: FlatDialect) -> u32 {
+    unsafe { c::pierloft_check(dialect) }
+}
+
+#[inline]
+pub fn decode(image: &[u8], at: usize, dialect: FlatDialect) -> FlatEntry {
+    unsafe { c::pierloft_decode(image.as_ptr(), image.len(), at, dialect) }
+}
+
+#[inline]
+pub fn step(image: &[u8], reader: FlatReader, dialect: FlatDialect) -> FlatStepped {
+    unsafe { c::pierloft_step(image.as_ptr(), image.len(), reader, dialect) }
+}
+
+#[inline]
+pub fn kept(length: usize, reader: FlatReader) -> FlatCount {
+    unsafe { c::pierloft_kept(length, reader) }
+}
+
+#[inline]
+pub fn xxh3_64(bytes: &[u8]) -> FlatHash {
+    unsafe { c::pierloft_xxh3_64(bytes.as_ptr(), bytes.len()) }
+}
+
+#[inline]
+pub fn hasher_new() -> FlatHasher {
+    unsafe { c::pierloft_hasher_new() }
+}
+
+#[inline]
+pub fn absorb_into(state: &mut FlatHasher, piece: &[u8]) -> u32 {
+    unsafe { c::pierloft_absorb_into(state, piece.as_ptr(), piece.len()) }
+}
+
+#[inline]
+pub fn finish(state: FlatHasher) -> FlatHash {
+    unsafe { c::pierloft_finish(state) }
+}
+
+/// Where a writer writes: its buffer, its dialect and its state.
+pub struct Place<'a> {
+    pub buf: &'a mut [u8],
+    pub dialect: FlatDialect,
+    pub writer: FlatWriter,
+}
+
+/// An item's four parts. The type is 0 to 3.
+pub struct FlatItem<'a> {
+    pub value_type: u8,
+    pub keyspace: u64,
+    pub key: &'a [u8],
+    pub value: &'a [u8],
+}
+
+#[inline]
+pub fn open(to: Place<'_>, count: u64, seqno: u64) -> FlatReply {
+    let (buf, length) = (to.buf.as_mut_ptr(), to.buf.len());
+    unsafe { c::pierloft_open(buf, length, to.dialect, to.writer, count, seqno) }
+}
+
+#[inline]
+pub fn put_item(to: Place<'_>, item: FlatItem<'_>) -> FlatReply {
+    unsafe {
+        c::pierloft_put_item(
+            to.buf.as_mut_ptr(),
+            to.buf.len(),
+            to.dialect,
+            to.writer,
+            item.value_type,
+            item.keyspace,
+            item.key.as_ptr(),
+            item.key.len(),
+            item.value.as_ptr(),
+            item.value.len(),
+        )
+    }
+}
+
+#[inline]
+pub fn put_clear(to: Place<'_>, keyspace: u64) -> FlatReply {
+    let (buf, length) = (to.buf.as_mut_ptr(), to.buf.len());
+    unsafe { c::pierloft_put_clear(buf, length, to.dialect, to.writer, keyspace) }
+}
+
+#[inline]
+pub fn close(to: Place<'_>) -> FlatReply {
+    let (buf, length) = (to.buf.as_mut_ptr(), to.buf.len());
+    unsafe { c::pierloft_close(buf, length, to.dialect, to.writer) }
+}
+
+#[inline]
+pub fn write_raw(to: Place<'_>, seqno: u64, item: FlatItem<'_>) -> FlatReply {
+    unsafe {
+        c::pierloft_write_raw(
+            to.buf.as_mut_ptr(),
+            to.buf.len(),
+            to.dialect,
+            to.writer,
+            seqno,
+            item.value_type,
+            item.keyspace,
+            item.key.as_ptr(),
+            item.key.len(),
+            item.value.as_ptr(),
+            item.value.len(),
+        )
+    }
+}
+
+#[inline]
+pub fn write_clear(to: Place<'_>, seqno: u64, keyspace: u64) -> FlatReply {
+    let (buf, length) = (to.buf.as_mut_ptr(), to.buf.len());
+    unsafe { c::pierloft_write_clear(buf, length, to.dialect, to.writer, seqno, keyspace) }
+}
+
+/// These declarations against the library's source. Nothing else holds them to it.
+#[cfg(test)]
+mod tests {
+    use super::*;
+    use std::mem::{offset_of, size_of};
+
+    const HERE: &str = include_str!("ffi.rs");
+    const LIBRARY: &str = include_str!("../../../crates/pierloft/src/lib.rt");
+
+    /// The fields of each `#[repr(C)]` struct, as they stand in the text.
+    fn structs(text: &str) -> Vec<(&str, &str)> {
+        text.split("\n#[repr(C)]\n")
+            .skip(1)
+            .map(|rest| {
+                let rest = &rest[rest.find("pub struct ").expect("a struct") + 11..];
+                rest.split_once(" {\n").expect("its fields")
+            })
+            .map(|(name, rest)| (name, rest.split_once("\n}").expect("its end").0))
+            .collect()
+    }
+
+    /// A function's name, the types of its arguments and of its answer, slices written as a pointer and a length.
+    fn signature(text: &str) -> (String, Vec<String>, String) {
+        let text = text.split_whitespace().collect::<Vec<_>>().join(" ");
+        let (name, rest) = text.split_once('(').expect("arguments");
+        let (arguments, answer) = rest.split_once(") -> ").expect("an answer");
+        let types = arguments
+            .split(", ")
+            .filter(|argument| !argument.is_empty())
+            .flat_map(|argument| {
+                let of = argument.split_once(": ").expect("a type").1;
+                match of.trim_end_matches(',') {
+                    "&[u8]" => vec!["*const u8", "usize"],
+                    "&mut [u8]" => vec!["*mut u8", "usize"],
+                    "&mut FlatHasher" => vec!["*mut FlatHasher"],
+                    other => vec![other],
+                }
+            })
+            .map(String::from)
+            .collect();
+        (name.into(), types, answer.into())
+    }
+
+    #[test]
+    fn structs_are_the_librarys() {
+        let theirs = structs(LIBRARY);
+        let ours = structs(HERE);
+        assert_eq!(ours.len(), 9);
+        for ours in ours {
+            assert!(theirs.contains(&ours), "{} is not the library's", ours.0);
+        }
+    }
+
+    #[test]
+    fn functions_are_the_librarys() {
+        let theirs: Vec<_> = LIBRARY
+            .split("\npub extern \"C\" fn ")
+            .skip(1)
+            .map(|rest| signature(rest.split("\n    ensures").next().expect("a contract")))
+            .collect();
+        let block = HERE
+            .split("extern \"C\" {\n")
+            .nth(1)
+            .expect("the declarations");
+        let ours: Vec<_> = block
+            .split("\n    }\n")
+            .next()
+            .expect("their end")
+            .split("pub fn ")
+            .skip(1)
+            .map(|rest| signature(rest.split(';').next().expect("its end")))
+            .collect();
+        assert_eq!(ours.len(), 16);
+        for ours in ours {
+            assert!(theirs.contains(&ours), "{ours:?} is not the library's");
+        }
+    }
+
+    /// The constants of Rust are the library's own.
+    #[test]
+    fn dialects_are_the_librarys() {
+        let (shipped, test) = unsafe { (c::pierloft_shipped(), c::pierloft_test()) };
+        assert_eq!(crate::Dialect::SHIPPED.0, shipped);
+        assert_eq!(crate::Dialect::TEST.0, test);
+    }
+
+    #[test]
+    fn sizes_and_offsets() {
+        assert_eq!(size_of::<FlatDialect>(), 24);
+        assert_eq!(offset_of!(FlatDialect, length), 8);
+        assert_eq!(offset_of!(FlatDialect, none), 20);
+        assert_eq!(size_of::<FlatEntry>(), 80);
+        assert_eq!(offset_of!(FlatEntry, value_type), 5);
+        assert_eq!(offset_of!(FlatEntry, count), 8);
+        assert_eq!(offset_of!(FlatEntry, next), 72);
+        assert_eq!(size_of::<FlatReader>(), 16);
+        assert_eq!(offset_of!(FlatReader, outcome), 12);
+        assert_eq!(size_of::<FlatStepped>(), 72);
+        assert_eq!(offset_of!(FlatStepped, seqno), 16);
+        assert_eq!(offset_of!(FlatStepped, reader), 56);
+        assert_eq!(size_of::<FlatCount>(), 16);
+        assert_eq!(size_of::<FlatHash>(), 16);
+        assert_eq!(size_of::<FlatHasher>(), 328);
+        assert_eq!(offset_of!(FlatHasher, total), 320);
+        assert_eq!(size_of::<FlatWriter>(), 32);
+        assert_eq!(offset_of!(FlatWriter, left), 24);
+        assert_eq!(size_of::<FlatReply>(), 48);
+        assert_eq!(offset_of!(FlatReply, writer), 16);
+    }
+}
