@@ -8,10 +8,14 @@ command -v cc >/dev/null || {
     exit 77
 }
 archive=target/staticlib/libpierloft.a source=crates/pierloft/src/lib.rt out=target/c
-if [ ! -f "$archive" ] || [ -n "$(find crates -name '*.rt' -newer "$archive")" ]; then
-    rt staticlib pierloft
-fi
 mkdir -p "$out"
+if [ ! -f "$archive" ] || [ -n "$(find crates -name '*.rt' -newer "$archive")" ]; then
+    echo 'c: building the static library'
+    rt staticlib pierloft >"$out/staticlib.log" 2>&1 || {
+        cat "$out/staticlib.log"
+        exit 1
+    }
+fi
 awk -f tests/c/layout.awk "$source" >"$out/layout.h"
 cc -std=c11 -Wall -Wextra -Wpedantic -Werror -O1 -Iinclude "-I$out" tests/c/answers.c "$archive" -o "$out/answers"
 "$out/answers"

@@ -88,6 +88,7 @@ command -v cargo >/dev/null || lack 'no cargo on this machine'
     echo "oracle: the sources at $FJALL are not those of fjall 3.1.13 (fjall.sha256)"
     exit 1
 }
+mkdir -p target
 crates
 while read -r name magic codes; do
     case $name in '#'* | '') continue ;; esac
@@ -96,6 +97,10 @@ while read -r name magic codes; do
 done <dialects
 archive=$top/target/staticlib/libpierloft.a
 if [ ! -f "$archive" ] || [ -n "$(find "$top/crates" -name '*.rt' -newer "$archive")" ]; then
-    (cd "$top" && rt staticlib pierloft) || exit 1
+    echo "oracle: building the static library"
+    (cd "$top" && rt staticlib pierloft) >target/staticlib.log 2>&1 || {
+        cat target/staticlib.log
+        exit 1
+    }
 fi
 PIERLOFT_ARCHIVE=$archive cargo build -q --release --offline

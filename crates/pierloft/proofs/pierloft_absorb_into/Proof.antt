@@ -49,7 +49,9 @@ use Rattle.pierloft.proofs.FlatAbsorbed as S
 use Rattle.pierloft.proofs.FlatAbsorbed.Laws as S′
 use Rattle.pierloft.proofs.pierloft_absorb as ab
 use Rattle.pierloft.proofs.pierloft_absorb.Symbol as ab-def
+use Rattle.pierloft.proofs.pierloft_absorb.Symbol.{name as #pierloft·absorb}
 use Rattle.pierloft.proofs.pierloft_absorb.Met as ab-thm
+use Rattle.pierloft.proofs.pierloft_absorb_into.Key.{name as #pierloft·absorb-into}
 use Rattle.pierloft.proofs.pierloft_absorb_into as at′
 use Rattle.pierloft.proofs.pierloft_absorb_into.Statement as stated
 use Rattle.pierloft.proofs.pierloft_absorb_into.Code as code

@@ -48,7 +48,9 @@ use Rattle.stream.proofs.Absorbed as S
 use Rattle.stream.proofs.Absorbed.Laws as S′
 use Rattle.stream.proofs.absorb as ab
 use Rattle.stream.proofs.absorb.Symbol as ab-def
+use Rattle.stream.proofs.absorb.Symbol.{name as #stream·absorb}
 use Rattle.stream.proofs.absorb.Met as ab-thm
+use Rattle.stream.proofs.absorb_into.Key.{name as #stream·absorb-into}
 use Rattle.stream.proofs.absorb_into as at′
 use Rattle.stream.proofs.absorb_into.Statement as stated
 use Rattle.stream.proofs.absorb_into.Code as code
