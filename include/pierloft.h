@@ -137,6 +137,21 @@ typedef struct {
 
 pierloft_entry pierloft_decode(const uint8_t *image, size_t length, size_t at, pierloft_dialect dialect);
 
+/* A part of an image: its place and its length; both 0 where the number is not 0. */
+typedef struct {
+    uint32_t number;
+    size_t at;
+    size_t length;
+} pierloft_span;
+
+/* The key and the value of the Item at a position; its fault, or PIERLOFT_NOT_AN_ITEM at another entry. */
+pierloft_span pierloft_key(const uint8_t *image, size_t length, size_t at, pierloft_dialect dialect);
+pierloft_span pierloft_value(const uint8_t *image, size_t length, size_t at, pierloft_dialect dialect);
+
+/* The body of a batch, by its place and its end, in an image of so many bytes: PIERLOFT_STATE where it ends past the image, or begins after
+ * it ends. */
+pierloft_span pierloft_body(size_t length, size_t body, size_t end);
+
 /* ---- writing */
 
 /* Each encoder fills the front of the part that it is lent with one entry and answers its length. An empty key is taken. A value type is

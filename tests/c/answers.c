@@ -141,6 +141,30 @@ static void reading(void)
     IS(pierloft_kept((size_t)1 << 32, torn).number == PIERLOFT_TOO_LONG);
 }
 
+static int is_span(pierloft_span s, uint32_t number, size_t at, size_t length)
+{
+    return s.number == number && s.at == at && s.length == length;
+}
+
+static void views(void)
+{
+    pierloft_dialect d = pierloft_test();
+    IS(is_span(pierloft_key(journal, sizeof journal, 13, d), 0, 34, 1));
+    IS(is_span(pierloft_value(journal, sizeof journal, 13, d), 0, 35, 2));
+    IS(is_span(pierloft_key(journal, sizeof journal, 0, d), PIERLOFT_NOT_AN_ITEM, 0, 0));
+    IS(is_span(pierloft_value(journal, sizeof journal, 37, d), PIERLOFT_NOT_AN_ITEM, 0, 0));
+    IS(is_span(pierloft_key(journal, 36, 13, d), PIERLOFT_INCOMPLETE, 0, 0));
+    IS(is_span(pierloft_value(journal, sizeof journal, 50, d), PIERLOFT_TAG, 0, 0));
+    IS(is_span(pierloft_key(journal, sizeof journal, 54, d), PIERLOFT_STATE, 0, 0));
+    IS(is_span(pierloft_body(53, 13, 37), 0, 13, 24));
+    IS(is_span(pierloft_body(53, 53, 53), 0, 53, 0));
+    IS(is_span(pierloft_body(36, 13, 37), PIERLOFT_STATE, 0, 0));
+    IS(is_span(pierloft_body(53, 38, 37), PIERLOFT_STATE, 0, 0));
+    IS(is_span(pierloft_body((size_t)1 << 32, 13, 37), PIERLOFT_TOO_LONG, 0, 0));
+    d.length = 0;
+    IS(is_span(pierloft_value(journal, sizeof journal, 13, d), PIERLOFT_DIALECT, 0, 0));
+}
+
 static void hashes(void)
 {
     const uint64_t none = UINT64_C(0x2d06800538d394c2); /* of no bytes, as published */
@@ -256,6 +280,7 @@ int main(void)
     dialects();
     entries();
     reading();
+    views();
     hashes();
     encoders();
     writing();

@@ -1,5 +1,5 @@
 -- The library's values as the numbers that cross to C.
-use Prim.Native.Nat.{ℕ}
+use Prim.Native.Nat.{ℕ, _-_}
 use mathlib.Core.Bool.{Bool, cond, not}
 use mathlib.Core.List.{List}
 use lib.Dec.{eqb, leb}
@@ -19,6 +19,8 @@ use Rattle.reader.specs.declared.Reader.{Reader}
 use Rattle.reader.specs.declared.Stepped.{Stepped}
 use Rattle.stream.specs.declared.Absorbed.{Absorbed}
 use Rattle.stream.specs.declared.Hasher.{Hasher}
+use Rattle.view.specs.declared.Pair.{Pair}
+use Rattle.view.specs.declared.Span.{Span}
 use Rattle.writer.specs.declared.WriterState.{WriterState}
 use Rattle.writer.specs.declared.Reply.{Reply}
 use Rattle.writer.specs.Writing.{Outcome}
@@ -32,6 +34,7 @@ use Rattle.pierloft.specs.declared.FlatHash.{FlatHash}
 use Rattle.pierloft.specs.declared.FlatHasher.{FlatHasher}
 use Rattle.pierloft.specs.declared.FlatReader.{FlatReader}
 use Rattle.pierloft.specs.declared.FlatReply.{FlatReply}
+use Rattle.pierloft.specs.declared.FlatSpan.{FlatSpan}
 use Rattle.pierloft.specs.declared.FlatStepped.{FlatStepped}
 use Rattle.pierloft.specs.declared.FlatWriter.{FlatWriter}
 
@@ -108,6 +111,20 @@ flatStepped came s = flatAnswer came (flatReader (s .reader)) (s .answer)
 abbrev pub flatKeep : Keep → FlatCount
 flatKeep (keeps.Bytes n) = record { number = 0; bytes = n }
 flatKeep (keeps.Refused n) = record { number = n; bytes = 0 }
+
+-- ---- views: a place and a length
+
+abbrev pub spanOf : ℕ → ℕ → ℕ → FlatSpan
+spanOf number from to = record { number = number; at = from; length = to - from }
+
+abbrev pub keySpan : Pair → FlatSpan
+keySpan p = spanOf (p .number) (p .key) (p .value)
+
+abbrev pub valueSpan : Pair → FlatSpan
+valueSpan p = spanOf (p .number) (p .value) (p .next)
+
+abbrev pub flatSpan : Span → FlatSpan
+flatSpan s = spanOf (s .number) (s .from) (s .to)
 
 -- ---- XXH3-64
 

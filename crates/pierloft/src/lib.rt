@@ -7,13 +7,15 @@ ghost use Rattle.refusal.specs.Refusal.{whenOf};
 ghost use Rattle.entry.specs.Entry.{start, item, clear, body, end};
 ghost use Rattle.entry.specs.Decoded.{decoded};
 ghost use Rattle.encode.specs.Encoding.{encoded};
+ghost use Prim.Native.Nat.{_≤_};
+ghost use Rattle.view.specs.View.{pairOf, bodySpan};
 ghost use Rattle.xxh3.specs.Xxh3.{defaultSecret, hash};
 ghost use Rattle.xxh3.specs.Hashed.{hashed};
 ghost use Rattle.stream.specs.Stream.{fresh};
 ghost use Rattle.stream.specs.Calls.{absorbed, finished};
 ghost use Rattle.reader.specs.Reading.{stepped, keptOf};
 ghost use Rattle.writer.specs.Writing.{openCall, putCall, closeCall, writeCall};
-ghost use Rattle.pierloft.specs.Flat.{dialectOf, flatDialect, typeNumber, noEntry, flatStart, flatItem, flatEnd, flatClear, flatEntry, noBatch, readerOf, flatReader, flatStepped, flatKeep, flatHash, hasherOf, flatHasher, flatAbsorbed, typeOf, flatWritten, writerOf, flatWriter, flatReply, typedCount, typedReply, typedBytes};
+ghost use Rattle.pierloft.specs.Flat.{dialectOf, flatDialect, typeNumber, noEntry, flatStart, flatItem, flatEnd, flatClear, flatEntry, noBatch, readerOf, flatReader, flatStepped, flatKeep, spanOf, keySpan, valueSpan, flatSpan, flatHash, hasherOf, flatHasher, flatAbsorbed, typeOf, flatWritten, writerOf, flatWriter, flatReply, typedCount, typedReply, typedBytes};
 use dialect::Dialect;
 use dialect::ValueType;
 use entry::Decoded;
@@ -78,6 +80,13 @@ pub struct FlatStepped {
 pub struct FlatCount {
     pub number: u32,
     pub bytes: usize,
+}
+
+#[repr(C)]
+pub struct FlatSpan {
+    pub number: u32,
+    pub at: usize,
+    pub length: usize,
 }
 
 #[repr(C)]
@@ -420,6 +429,44 @@ pub extern "C" fn pierloft_kept(length: usize, reader: FlatReader) -> FlatCount
     ensures { λ r. ⌜ r ≡ flatKeep (keptOf length (readerOf reader)) ⌝ }
 {
     flat_keep(reader::kept(length, reader_of(reader)))
+}
+
+// ---- views
+
+// Assumes that it does not end before it begins.
+fn span(number: u32, from: usize, to: usize) -> FlatSpan
+    requires { ⌜ from ≤ to ⌝ }
+    ensures { λ r. ⌜ r ≡ spanOf number from to ⌝ }
+{
+    FlatSpan {
+        number,
+        at: from,
+        length: to - from,
+    }
+}
+
+#[no_mangle]
+pub extern "C" fn pierloft_key(image: &[u8], at: usize, d: FlatDialect) -> FlatSpan
+    ensures { λ r. ⌜ r ≡ keySpan (pairOf (decoded (dialectOf d) (now (image .entry)) at)) ⌝ }
+{
+    let pair = view::pair_of(entry::decode(image, at, dialect_of(d)));
+    span(pair.number, pair.key, pair.value)
+}
+
+#[no_mangle]
+pub extern "C" fn pierloft_value(image: &[u8], at: usize, d: FlatDialect) -> FlatSpan
+    ensures { λ r. ⌜ r ≡ valueSpan (pairOf (decoded (dialectOf d) (now (image .entry)) at)) ⌝ }
+{
+    let pair = view::pair_of(entry::decode(image, at, dialect_of(d)));
+    span(pair.number, pair.value, pair.next)
+}
+
+#[no_mangle]
+pub extern "C" fn pierloft_body(length: usize, from: usize, to: usize) -> FlatSpan
+    ensures { λ r. ⌜ r ≡ flatSpan (bodySpan length from to) ⌝ }
+{
+    let s = view::body_span(length, from, to);
+    span(s.number, s.from, s.to)
 }
 
 // ---- XXH3-64

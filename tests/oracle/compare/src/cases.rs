@@ -129,6 +129,9 @@ fn made_up(four: &mut [Pair], i: &mut Input, listed: bool) -> Said {
     let step = ours::step(image, reader, d);
     same("step", step, plain::step(image, reader, &d))?;
     same("decode", ours::decode(image, at, d), plain::decode(image, at, &d))?;
+    same("key and value", [ours::key(image, at, d), ours::value(image, at, d)], plain::views(image, at, &d))?;
+    let end = place(head, image.len());
+    same("body", ours::body(image.len(), at, end), plain::body(image.len(), at, end))?;
     same("kept", ours::kept(image.len(), reader), plain::kept(image.len(), reader))?;
     let Some(pair) = four.iter_mut().find(|p| ours::flat(p.ours.dialect()) == d) else { return Ok(()) };
     if step.number != 0 || ended != 0 {

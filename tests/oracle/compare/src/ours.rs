@@ -61,6 +61,14 @@ pub struct FlatCount {
 
 #[repr(C)]
 #[derive(Clone, Copy, Debug, PartialEq, Eq)]
+pub struct FlatSpan {
+    pub number: u32,
+    pub at: usize,
+    pub length: usize,
+}
+
+#[repr(C)]
+#[derive(Clone, Copy, Debug, PartialEq, Eq)]
 pub struct FlatHash {
     pub number: u32,
     pub hash: u64,
@@ -99,7 +107,7 @@ pub struct FlatReply {
 }
 
 mod c {
-    use super::{FlatAbsorbed, FlatCount, FlatDialect, FlatEntry, FlatHash, FlatHasher, FlatReader, FlatReply, FlatStepped, FlatWriter};
+    use super::{FlatAbsorbed, FlatCount, FlatDialect, FlatEntry, FlatHash, FlatHasher, FlatReader, FlatReply, FlatSpan, FlatStepped, FlatWriter};
     type Dialect = FlatDialect;
     type Writer = FlatWriter;
 
@@ -107,6 +115,9 @@ mod c {
         pub fn pierloft_decode(image: *const u8, length: usize, at: usize, dialect: FlatDialect) -> FlatEntry;
         pub fn pierloft_step(image: *const u8, length: usize, reader: FlatReader, dialect: FlatDialect) -> FlatStepped;
         pub fn pierloft_kept(length: usize, reader: FlatReader) -> FlatCount;
+        pub fn pierloft_key(image: *const u8, length: usize, at: usize, dialect: Dialect) -> FlatSpan;
+        pub fn pierloft_value(image: *const u8, length: usize, at: usize, dialect: Dialect) -> FlatSpan;
+        pub fn pierloft_body(length: usize, body: usize, end: usize) -> FlatSpan;
         pub fn pierloft_xxh3_64(bytes: *const u8, length: usize) -> FlatHash;
         pub fn pierloft_hasher_new() -> FlatHasher;
         pub fn pierloft_absorb(state: FlatHasher, piece: *const u8, length: usize) -> FlatAbsorbed;
@@ -169,6 +180,18 @@ pub fn step(image: &[u8], reader: FlatReader, dialect: FlatDialect) -> FlatStepp
 
 pub fn kept(length: usize, reader: FlatReader) -> FlatCount {
     unsafe { c::pierloft_kept(length, reader) }
+}
+
+pub fn key(image: &[u8], at: usize, dialect: FlatDialect) -> FlatSpan {
+    unsafe { c::pierloft_key(image.as_ptr(), image.len(), at, dialect) }
+}
+
+pub fn value(image: &[u8], at: usize, dialect: FlatDialect) -> FlatSpan {
+    unsafe { c::pierloft_value(image.as_ptr(), image.len(), at, dialect) }
+}
+
+pub fn body(length: usize, body: usize, end: usize) -> FlatSpan {
+    unsafe { c::pierloft_body(length, body, end) }
 }
 
 pub fn xxh3_64(bytes: &[u8]) -> FlatHash {
@@ -304,6 +327,7 @@ impl Ours {
     /// A batch's body, walked entry by entry.
     fn batch(&self, image: &[u8], at: usize, s: &FlatStepped) -> Batch {
         assert!(s.reader == FlatReader { position: s.next, ended: 0, outcome: 0 } && s.body == at + 13);
+        assert!(body(image.len(), s.body, s.end) == FlatSpan { number: 0, at: s.body, length: s.end - s.body });
         let mut entries = vec![];
         let mut place = s.body;
         while place < s.end {

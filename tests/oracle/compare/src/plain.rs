@@ -1,6 +1,6 @@
 //! Document 01 once more, as plain Rust over any dialect and any state, for what fjall has no answer to: other dialects, made-up
 //! states, refusals, the writer's calls one by one. Where fjall has one, this is compared with it too.
-use crate::ours::{Alone, FlatCount, FlatDialect, FlatEntry, FlatReader, FlatReply, FlatStepped, FlatWriter, Op, Put, NOTHING};
+use crate::ours::{Alone, FlatCount, FlatDialect, FlatEntry, FlatReader, FlatReply, FlatSpan, FlatStepped, FlatWriter, Op, Put, NOTHING};
 use xxhash_rust::xxh3::xxh3_64;
 
 const LIMIT: usize = 0xffff_ffff;
@@ -79,6 +79,22 @@ pub fn decode(image: &[u8], at: usize, d: &FlatDialect) -> FlatEntry {
     let refused = first(&[(!good(d), 20), (image.len() > LIMIT, 21), (at > image.len(), 22)]);
     let got = if refused == 0 { entry(image, at, d) } else { Err(refused) };
     got.unwrap_or_else(|number| FlatEntry { number, ..NOTHING })
+}
+
+/// The key, and the value, of the Item at a position.
+pub fn views(image: &[u8], at: usize, d: &FlatDialect) -> [FlatSpan; 2] {
+    let e = decode(image, at, d);
+    let number = if e.number == 0 && e.tag != 2 { 35 } else { e.number };
+    [FlatSpan { number, at: e.key_at, length: e.key_len }, FlatSpan { number, at: e.value_at, length: e.value_len }]
+}
+
+pub fn body(length: usize, body: usize, end: usize) -> FlatSpan {
+    let number = first(&[(length > LIMIT, 21), (end > length, 22), (body > end, 22)]);
+    if number == 0 {
+        FlatSpan { number, at: body, length: end - body }
+    } else {
+        FlatSpan { number, at: 0, length: 0 }
+    }
 }
 
 /// The bytes of an Item or a Clear, encoded anew.
