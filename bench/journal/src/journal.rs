@@ -143,7 +143,7 @@ fn compare(fjall: &Fjall, size: usize, value: usize, rounds: usize) {
 fn growth(value: usize, quick: bool) {
     let load = Load::new(value);
     let mut buffer = vec![0; 1 << 30];
-    let mut first = [0.0; 2];
+    let mut first = [0.0; 3];
     for (size, name, rounds) in [(1 << 20, "1 MiB", 60), (1 << 26, "64 MiB", 8), (1 << 30, "1 GiB", 3)] {
         let times = load.times(size);
         let length = write(&mut buffer, &load, times);
@@ -157,6 +157,10 @@ fn growth(value: usize, quick: bool) {
                 &mut || {
                     black_box(write(&mut buffer, &load, times));
                 },
+                // what the memory alone does to the time
+                &mut || {
+                    black_box(shipped(black_box(&copy)));
+                },
             ],
         );
         let each = took.map(|time| time / length as f64);
@@ -167,6 +171,7 @@ fn growth(value: usize, quick: bool) {
         let input = format!("{name}, values of {value} B");
         line("reading, time of a byte", &input, "the same at 1 MiB", each[0], first[0], "1, linear");
         line("writing, time of a byte", &input, "the same at 1 MiB", each[1], first[1], "1, linear");
+        line("libxxhash's hash, time of a byte", &input, "the same at 1 MiB", each[2], first[2], "");
     }
 }
 

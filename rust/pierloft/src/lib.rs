@@ -5,10 +5,10 @@
 //!
 //! - no call traps, runs on, or writes outside what it was lent; what is wrong is refused by a number ([`Refusal`]), and a refused call
 //!   changes nothing;
-//! - [`batches`] shows the batches that fjall's reader would show up to its first end or error, with the same last valid position and
-//!   [`Outcome`], and the checksum that it compares is XXH3-64;
-//! - what a [`Writer`] wrote reads back as it was put; behind an append the batches before it are as they were; a journal cut anywhere reads
-//!   as a beginning of its batches.
+//! - [`batches`] shows the batches, the last valid position and the [`Outcome`] that the specification's layout and reading rules give, and the
+//!   checksum that it compares is XXH3-64 (that fjall's reader gives the same was shown by runs on millions of images);
+//! - what a [`Writer`] wrote reads back as it was put; bytes behind a clean journal change nothing of its batches; a written journal cut
+//!   anywhere yields exactly the batches before the cut.
 //!
 //! Not proved: this crate, which is thin for that reason (its `unsafe` is in one small module), the compiler's back end, and that the codes of
 //! [`Dialect::SHIPPED`] are those of fjall's dependency lsm_tree. The repository's README says more.
