@@ -1,6 +1,7 @@
 #!/bin/sh
-# tests/oracle/run.sh SEED COUNT: builds the comparison and runs it: all sets, COUNT random images, the large images. Status 0: no
-# difference; 1: one, which is printed; 77: not run, since this machine lacks the Rust or its crates.
+# tests/oracle/run.sh SEED COUNT: builds the comparison and runs it: the listed differences, the fixed lists, a quarter of COUNT made-up
+# cases, all sets, COUNT random images, the large images. Status 0: no difference; 1: one, which is printed; 77: not run, since this machine
+# lacks the Rust or its crates.
 set -eu
 cd "$(dirname "$0")"
 [ $# -eq 2 ] || {
@@ -11,4 +12,5 @@ cd "$(dirname "$0")"
 compare=target/cargo/release/compare
 $compare spoilt
 $compare differences
+./list.sh --check
 $compare run "$1" "$2"

@@ -11,5 +11,5 @@ inputs=$(cd "$2" && pwd -P)
 cd "$(dirname "$0")/.."
 ./fuzz/build.sh
 [ -n "$(ls -A "$inputs")" ] || target/cargo/release/compare seeds "$inputs"
-exec nice -n 10 target/fuzz/x86_64-unknown-linux-gnu/release/fuzz -max_total_time="$1" -max_len=8192 -rss_limit_mb=8192 -malloc_limit_mb=8192 \
+exec nice -n 19 target/fuzz/x86_64-unknown-linux-gnu/release/fuzz -max_total_time="$1" -max_len=8192 -rss_limit_mb=8192 -malloc_limit_mb=8192 \
     -print_final_stats=1 -artifact_prefix="$inputs.found-" "$inputs"

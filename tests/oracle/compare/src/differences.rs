@@ -146,6 +146,17 @@ fn limits(library: &Ours) {
     held("L1", over && step.number == 0 && step.outcome == 1 && ours::decode(most, 0, d).number == 31);
 }
 
+/// L2: an Item whose value length is 9 and whose on-disk length is 2, with the checksum of the new encoding. L3: a step from behind it.
+fn forms(rust: &mut Fjall, library: &mut Ours) {
+    let d = library.dialect();
+    let odd = Token::Item { code: d.codes[0], none: d.none, keyspace: 2, key: b"a".to_vec(), stated: 9, disk: 2, value: b"xy".to_vec() };
+    let bytes = image(&d, &[start(1), odd, Token::End(Sum::Anew), start(1), Token::Clear(2), Token::End(Sum::Anew)]);
+    let reading = rust.read(&bytes);
+    held("L2", reading == library.read(&bytes) && reading.outcome == 0 && reading.batches.len() == 2 && bytes[26..34] == [9, 0, 0, 0, 2, 0, 0, 0]);
+    let step = ours::step(&bytes, ours::FlatReader { position: 50, ended: 0, outcome: 0 }, ours::flat(d));
+    held("L3", step.accepted == 1 && step.next == bytes.len() && rust.read(&bytes[50..]).batches.len() == 1);
+}
+
 pub fn run() {
     let mut rust = Fjall::new().expect("a file in memory");
     let mut library = Ours::new(rust.dialect());
@@ -153,4 +164,5 @@ pub fn run() {
     writer(&mut rust, &library);
     mixed(&mut rust, &mut library);
     limits(&library);
+    forms(&mut rust, &mut library);
 }
