@@ -1,10 +1,10 @@
 -- Laws of numbers in bytes, over the width where it is any.
 use Prim.Native.Nat.{ℕ, zero, suc, _+_, _*_, _/_, _%_, _^_, _≤_, _<_}
 use mathlib.Core.Path.{_≡_, refl, ap}
-use mathlib.Core.List.{List, _∷_}
+use mathlib.Core.List.{List, [], _∷_}
 use native.Mathlib.Omega.{arith}
 use native.Mathlib.Nat.{add-zero, add-assoc, zero-add, mul-left-comm, mul-add, pow-succ'}
-use lib.ListN.{length, getD, take, drop}
+use lib.ListN.{length, getD, take, drop, length-drop}
 use lib.Seq.{getD-take, getD-drop}
 use Rattle.number.specs.Number.{le, bytes}
 
@@ -54,3 +54,27 @@ pub le-bytes : (n x : ℕ) → x < 256 ^ n → le n (bytes n x) 0 ≡ x
 unfolding bytes
 le-bytes zero x h = unfold le in omega arith
 le-bytes (suc n) x h = rw (le-cons n (x % 256) (bytes n (x / 256)), le-bytes n (x / 256) (omega arith)) (omega arith)
+
+le-drop : (n : ℕ) (s : List ℕ) (i : ℕ) → le n (drop i s) 0 ≡ le n s i
+unfolding le
+le-drop zero s i = refl
+le-drop (suc n) s i = rw (le-drop n s i, zero-add n, getD-drop i s n 0)
+
+-- every element is a byte
+abbrev pub Octets : List ℕ → Type 0
+Octets s = (j : ℕ) → getD s j 0 < 256
+
+front-bytes : (n : ℕ) (s : List ℕ) → Octets s → n ≤ length s → bytes n (le n s 0) ≡ take n s
+unfolding bytes
+front-bytes zero s o h = refl
+front-bytes (suc n) [] o h = absurd (omega arith)
+front-bytes (suc n) (b ∷ s) o h =
+    let l : b < 256 = o 0 in
+    let x = le n s 0 in
+    let m : (b + 256 * x) % 256 ≡ b = omega arith in
+    let q : (b + 256 * x) / 256 ≡ x = omega arith in
+    rw (le-cons n b s, m, q) (ap (λ (t : List ℕ). b ∷ t) (front-bytes n s (λ j. o (suc j)) (omega arith)))
+
+-- bytes are those of the number that is read from them
+pub bytes-le : (n : ℕ) (s : List ℕ) (i : ℕ) → Octets s → i + n ≤ length s → bytes n (le n s i) ≡ take n (drop i s)
+bytes-le n s i o h = rw (← (le-drop n s i)) (front-bytes n (drop i s) (λ j. rw (getD-drop i s j 0) (o (i + j))) (simp length-drop (omega arith)))
