@@ -1,12 +1,12 @@
 use mathlib.Core.Path.{ap, _∙_}
 use Rattle.view.proofs.Laws.{body-within}
-use Rattle.pierloft.specs.Flat.{flatSpan}
+use Rattle.flat.specs.Flat.{flatSpan}
 use borrow.Author.Needs.{needs}
 use Rattle.pierloft.proofs.pierloft_body.Statement.{statement}
 use Rattle.pierloft.proofs.pierloft_body.Tie as tie
 use Rattle.pierloft.proofs.pierloft_body.Reads as reads
 use Rattle.pierloft.proofs.pierloft_body.Lts as lts
-use Rattle.pierloft.proofs.span.Reads as span-reads
+use Rattle.flat.proofs.span.Reads as span-reads
 use Rattle.view.proofs.body_span.Reads as body-span-reads
 
 body-span-requires : tie.Need-body-span-requires

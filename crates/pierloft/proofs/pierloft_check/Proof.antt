@@ -2,9 +2,6 @@ use borrow.Author.Needs.{needs}
 use Rattle.pierloft.proofs.pierloft_check.Statement.{statement}
 use Rattle.pierloft.proofs.pierloft_check.Tie as tie
 
-dialect-of-requires : tie.Need-dialect-of-requires
-dialect-of-requires c κs = search needs
-
 is-good-requires : tie.Need-is-good-requires
 is-good-requires c κs = search needs
 
@@ -16,4 +13,4 @@ returns c = cc
 
 pub pierloft-check-spec : {M : Type 1} → statement M
 pierloft-check-spec =
-    tie.close (tie.spec dialect-of-requires is-good-requires when-requires returns)
+    tie.close (tie.spec is-good-requires when-requires returns)

@@ -2,9 +2,6 @@ use borrow.Author.Needs.{needs}
 use Rattle.pierloft.proofs.pierloft_decode.Statement.{statement}
 use Rattle.pierloft.proofs.pierloft_decode.Tie as tie
 
-dialect-of-requires : tie.Need-dialect-of-requires
-dialect-of-requires c κs = search needs
-
 decode-requires : tie.Need-decode-requires
 decode-requires c κs = search needs
 
@@ -16,4 +13,4 @@ returns c = cc
 
 pub pierloft-decode-spec : {M : Type 1} → statement M
 pierloft-decode-spec =
-    tie.close (tie.spec dialect-of-requires decode-requires flat-entry-requires returns)
+    tie.close (tie.spec decode-requires flat-entry-requires returns)

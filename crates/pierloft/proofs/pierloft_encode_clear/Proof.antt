@@ -2,9 +2,6 @@ use borrow.Author.Needs.{needs}
 use Rattle.pierloft.proofs.pierloft_encode_clear.Statement.{statement}
 use Rattle.pierloft.proofs.pierloft_encode_clear.Tie as tie
 
-dialect-of-requires : tie.Need-dialect-of-requires
-dialect-of-requires c κs = search needs
-
 encode-clear-requires : tie.Need-encode-clear-requires
 encode-clear-requires c κs = search needs
 
@@ -20,4 +17,4 @@ returns c = ((cc), (cc))
 pub pierloft-encode-clear-spec : {M : Type 1} → statement M
 pierloft-encode-clear-spec =
     tie.close
-    (tie.spec dialect-of-requires encode-clear-requires flat-written-requires same-length returns)
+    (tie.spec encode-clear-requires flat-written-requires same-length returns)

@@ -2,9 +2,6 @@ use borrow.Author.Needs.{needs}
 use Rattle.pierloft.proofs.pierloft_encode_end.Statement.{statement}
 use Rattle.pierloft.proofs.pierloft_encode_end.Tie as tie
 
-dialect-of-requires : tie.Need-dialect-of-requires
-dialect-of-requires c κs = search needs
-
 encode-end-requires : tie.Need-encode-end-requires
 encode-end-requires c κs = search needs
 
@@ -20,4 +17,4 @@ returns c = ((cc), (cc))
 pub pierloft-encode-end-spec : {M : Type 1} → statement M
 pierloft-encode-end-spec =
     tie.close
-    (tie.spec dialect-of-requires encode-end-requires flat-written-requires same-length returns)
+    (tie.spec encode-end-requires flat-written-requires same-length returns)

@@ -2,9 +2,6 @@ use borrow.Author.Needs.{needs}
 use Rattle.pierloft.proofs.pierloft_encode_start.Statement.{statement}
 use Rattle.pierloft.proofs.pierloft_encode_start.Tie as tie
 
-dialect-of-requires : tie.Need-dialect-of-requires
-dialect-of-requires c κs = search needs
-
 encode-start-requires : tie.Need-encode-start-requires
 encode-start-requires c κs = search needs
 
@@ -20,4 +17,4 @@ returns c = ((cc), (cc))
 pub pierloft-encode-start-spec : {M : Type 1} → statement M
 pierloft-encode-start-spec =
     tie.close
-    (tie.spec dialect-of-requires encode-start-requires flat-written-requires same-length returns)
+    (tie.spec encode-start-requires flat-written-requires same-length returns)

@@ -2,9 +2,6 @@ use borrow.Author.Needs.{needs}
 use Rattle.pierloft.proofs.pierloft_finish.Statement.{statement}
 use Rattle.pierloft.proofs.pierloft_finish.Tie as tie
 
-hasher-of-requires : tie.Need-hasher-of-requires
-hasher-of-requires c κs = search needs
-
 finish-requires : tie.Need-finish-requires
 finish-requires c κs = search needs
 
@@ -16,4 +13,4 @@ returns c = cc
 
 pub pierloft-finish-spec : {M : Type 1} → statement M
 pierloft-finish-spec =
-    tie.close (tie.spec hasher-of-requires finish-requires flat-hash-requires returns)
+    tie.close (tie.spec finish-requires flat-hash-requires returns)

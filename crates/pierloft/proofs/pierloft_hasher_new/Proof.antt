@@ -5,11 +5,8 @@ use Rattle.pierloft.proofs.pierloft_hasher_new.Tie as tie
 new-requires : tie.Need-new-requires
 new-requires c κs = search needs
 
-flat-hasher-requires : tie.Need-flat-hasher-requires
-flat-hasher-requires c κs = search needs
-
 returns : tie.Need-returns
 returns c = cc
 
 pub pierloft-hasher-new-spec : {M : Type 1} → statement M
-pierloft-hasher-new-spec = tie.close (tie.spec new-requires flat-hasher-requires returns)
+pierloft-hasher-new-spec = tie.close (tie.spec new-requires returns)

@@ -2,9 +2,6 @@ use borrow.Author.Needs.{needs}
 use Rattle.pierloft.proofs.pierloft_open.Statement.{statement}
 use Rattle.pierloft.proofs.pierloft_open.Tie as tie
 
-dialect-of-requires : tie.Need-dialect-of-requires
-dialect-of-requires c κs = search needs
-
 writer-of-requires : tie.Need-writer-of-requires
 writer-of-requires c κs = search needs
 
@@ -24,7 +21,6 @@ pub pierloft-open-spec : {M : Type 1} → statement M
 pierloft-open-spec =
     tie.close
     (tie.spec
-    dialect-of-requires
     writer-of-requires
     open-requires
     flat-reply-requires

@@ -5,11 +5,8 @@ use Rattle.pierloft.proofs.pierloft_shipped.Tie as tie
 shipped-requires : tie.Need-shipped-requires
 shipped-requires c κs = search needs
 
-flat-dialect-requires : tie.Need-flat-dialect-requires
-flat-dialect-requires c κs = search needs
-
 returns : tie.Need-returns
 returns c = cc
 
 pub pierloft-shipped-spec : {M : Type 1} → statement M
-pierloft-shipped-spec = tie.close (tie.spec shipped-requires flat-dialect-requires returns)
+pierloft-shipped-spec = tie.close (tie.spec shipped-requires returns)

@@ -5,9 +5,6 @@ use Rattle.pierloft.proofs.pierloft_step.Tie as tie
 reader-of-requires : tie.Need-reader-of-requires
 reader-of-requires c κs = search needs
 
-dialect-of-requires : tie.Need-dialect-of-requires
-dialect-of-requires c κs = search needs
-
 step-requires : tie.Need-step-requires
 step-requires c κs = search needs
 
@@ -20,4 +17,4 @@ returns c = cc
 pub pierloft-step-spec : {M : Type 1} → statement M
 pierloft-step-spec =
     tie.close
-    (tie.spec reader-of-requires dialect-of-requires step-requires flat-stepped-requires returns)
+    (tie.spec reader-of-requires step-requires flat-stepped-requires returns)

@@ -2,9 +2,6 @@ use borrow.Author.Needs.{needs}
 use Rattle.pierloft.proofs.pierloft_write_clear.Statement.{statement}
 use Rattle.pierloft.proofs.pierloft_write_clear.Tie as tie
 
-dialect-of-requires : tie.Need-dialect-of-requires
-dialect-of-requires c κs = search needs
-
 writer-of-requires : tie.Need-writer-of-requires
 writer-of-requires c κs = search needs
 
@@ -24,7 +21,6 @@ pub pierloft-write-clear-spec : {M : Type 1} → statement M
 pierloft-write-clear-spec =
     tie.close
     (tie.spec
-    dialect-of-requires
     writer-of-requires
     write-clear-requires
     flat-reply-requires

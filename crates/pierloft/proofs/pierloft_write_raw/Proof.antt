@@ -1,5 +1,5 @@
 use borrow.Author.Tests.{le-leb, lt-leb}
-use Rattle.pierloft.specs.Flat.{typedReply, typedBytes}
+use Rattle.flat.specs.Flat.{typedReply, typedBytes}
 use borrow.Author.Needs.{needs}
 use Rattle.pierloft.proofs.pierloft_write_raw.Statement.{statement}
 use Rattle.pierloft.proofs.pierloft_write_raw.Tie as tie
@@ -10,9 +10,6 @@ returns c = (rw (lt-leb _ _ (c .if1 .taken)), rw (lt-leb _ _ (c .if1 .taken)))
 
 type-of-requires : tie.Need-type-of-requires
 type-of-requires c κs = search needs
-
-dialect-of-requires : tie.Need-dialect-of-requires
-dialect-of-requires c κs = search needs
 
 writer-of-requires : tie.Need-writer-of-requires
 writer-of-requires c κs = search needs
@@ -29,7 +26,7 @@ same-length c = search needs
 returns-2 : tie.Need-returns-2
 unfolding typedReply typedBytes
 returns-2 c =
-    let t = le-leb _ _ (c .before .before .before .before .before .before .before .before .if1 .left) in
+    let t = le-leb _ _ (c .before .before .before .before .before .before .before .if1 .left) in
     (rw t (cc), rw t (cc))
 
 pub pierloft-write-raw-spec : {M : Type 1} → statement M
@@ -38,7 +35,6 @@ pierloft-write-raw-spec =
     (tie.spec
     returns
     type-of-requires
-    dialect-of-requires
     writer-of-requires
     write-raw-requires
     flat-reply-requires

@@ -1,6 +1,6 @@
 use borrow.Author.Needs.{needs}
-use Rattle.pierloft.proofs.flat_keep.Statement.{statement}
-use Rattle.pierloft.proofs.flat_keep.Tie as tie
+use Rattle.flat.proofs.flat_keep.Statement.{statement}
+use Rattle.flat.proofs.flat_keep.Tie as tie
 
 enum-known-k : tie.Need-enum-known-k
 enum-known-k c = search needs

@@ -1,7 +1,7 @@
 use borrow.Author.Tests.{eq-eqb, ne-eqb}
-use Rattle.pierloft.specs.Flat.{typeNumber}
-use Rattle.pierloft.proofs.type_number.Statement.{statement}
-use Rattle.pierloft.proofs.type_number.Tie as tie
+use Rattle.flat.specs.Flat.{typeNumber}
+use Rattle.flat.proofs.type_number.Statement.{statement}
+use Rattle.flat.proofs.type_number.Tie as tie
 
 returns : tie.Need-returns
 unfolding typeNumber

@@ -1,7 +1,7 @@
 use mathlib.Core.Path.{_∙_}
 use borrow.Author.Needs.{needs}
-use Rattle.pierloft.proofs.flat_entry.Statement.{statement}
-use Rattle.pierloft.proofs.flat_entry.Tie as tie
+use Rattle.flat.proofs.flat_entry.Statement.{statement}
+use Rattle.flat.proofs.flat_entry.Tie as tie
 
 enum-known-e : tie.Need-enum-known-e
 enum-known-e c = search needs

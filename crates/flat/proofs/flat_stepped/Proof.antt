@@ -1,7 +1,7 @@
 use mathlib.Core.Path.{_∙_}
 use borrow.Author.Needs.{needs}
-use Rattle.pierloft.proofs.flat_stepped.Statement.{statement}
-use Rattle.pierloft.proofs.flat_stepped.Tie as tie
+use Rattle.flat.proofs.flat_stepped.Statement.{statement}
+use Rattle.flat.proofs.flat_stepped.Tie as tie
 
 enum-known-answer : tie.Need-enum-known-answer
 enum-known-answer c = search needs

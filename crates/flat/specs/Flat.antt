@@ -17,8 +17,6 @@ use Rattle.reader.specs.declared.Keep.{Keep}
 use Rattle.reader.specs.declared.Keep.the-variants as keeps
 use Rattle.reader.specs.declared.Reader.{Reader}
 use Rattle.reader.specs.declared.Stepped.{Stepped}
-use Rattle.stream.specs.declared.Absorbed.{Absorbed}
-use Rattle.stream.specs.declared.Hasher.{Hasher}
 use Rattle.view.specs.declared.Pair.{Pair}
 use Rattle.view.specs.declared.Span.{Span}
 use Rattle.writer.specs.declared.WriterState.{WriterState}
@@ -26,27 +24,14 @@ use Rattle.writer.specs.declared.Reply.{Reply}
 use Rattle.writer.specs.Writing.{Outcome}
 use Rattle.xxh3.specs.declared.Hashed.{Hashed}
 use Rattle.xxh3.specs.declared.Hashed.the-variants as hashed
-use Rattle.pierloft.specs.declared.FlatAbsorbed.{FlatAbsorbed}
-use Rattle.pierloft.specs.declared.FlatCount.{FlatCount}
-use Rattle.pierloft.specs.declared.FlatDialect.{FlatDialect}
-use Rattle.pierloft.specs.declared.FlatEntry.{FlatEntry}
-use Rattle.pierloft.specs.declared.FlatHash.{FlatHash}
-use Rattle.pierloft.specs.declared.FlatHasher.{FlatHasher}
-use Rattle.pierloft.specs.declared.FlatReader.{FlatReader}
-use Rattle.pierloft.specs.declared.FlatReply.{FlatReply}
-use Rattle.pierloft.specs.declared.FlatSpan.{FlatSpan}
-use Rattle.pierloft.specs.declared.FlatStepped.{FlatStepped}
-use Rattle.pierloft.specs.declared.FlatWriter.{FlatWriter}
-
--- ---- dialects
-
-abbrev pub dialectOf : FlatDialect → Dialect
-dialectOf d =
-    record { magic = d .magic; length = d .length; value = d .value; tombstone = d .tombstone; weak = d .weak; indirection = d .indirection; none = d .none }
-
-abbrev pub flatDialect : Dialect → FlatDialect
-flatDialect d =
-    record { magic = d .magic; length = d .length; value = d .value; tombstone = d .tombstone; weak = d .weak; indirection = d .indirection; none = d .none }
+use Rattle.flat.specs.declared.FlatCount.{FlatCount}
+use Rattle.flat.specs.declared.FlatEntry.{FlatEntry}
+use Rattle.flat.specs.declared.FlatHash.{FlatHash}
+use Rattle.flat.specs.declared.FlatReader.{FlatReader}
+use Rattle.flat.specs.declared.FlatReply.{FlatReply}
+use Rattle.flat.specs.declared.FlatSpan.{FlatSpan}
+use Rattle.flat.specs.declared.FlatStepped.{FlatStepped}
+use Rattle.flat.specs.declared.FlatWriter.{FlatWriter}
 
 -- ---- entries
 
@@ -131,15 +116,6 @@ flatSpan s = spanOf (s .number) (s .from) (s .to)
 abbrev pub flatHash : Hashed → FlatHash
 flatHash (hashed.Sum h) = record { number = 0; hash = h }
 flatHash (hashed.Refused n) = record { number = n; hash = 0 }
-
-abbrev pub hasherOf : FlatHasher → Hasher
-hasherOf h = record { acc = h .acc; hold = h .hold; total = h .total }
-
-abbrev pub flatHasher : Hasher → FlatHasher
-flatHasher h = record { acc = h .acc; hold = h .hold; total = h .total }
-
-abbrev pub flatAbsorbed : Absorbed → FlatAbsorbed
-flatAbsorbed a = record { number = a .number; state = flatHasher (a .state) }
 
 -- ---- writing
 

@@ -2,8 +2,8 @@ use borrow.Author.Needs.{needs}
 use mathlib.Core.Path.{_≡_, refl}
 use mathlib.Core.Bool.{Bool, true, false, cond}
 use mir.Val.{boolByte}
-use Rattle.pierloft.proofs.flag.Statement.{statement}
-use Rattle.pierloft.proofs.flag.Tie as tie
+use Rattle.flat.proofs.flag.Statement.{statement}
+use Rattle.flat.proofs.flag.Tie as tie
 
 as-number : (t : Bool) → boolByte t ≡ cond t 1 0
 as-number true = refl

@@ -1,6 +1,6 @@
 use borrow.Author.Needs.{needs}
-use Rattle.pierloft.proofs.flat_reply.Statement.{statement}
-use Rattle.pierloft.proofs.flat_reply.Tie as tie
+use Rattle.flat.proofs.flat_reply.Statement.{statement}
+use Rattle.flat.proofs.flat_reply.Tie as tie
 
 enum-known-answer : tie.Need-enum-known-answer
 enum-known-answer c = search needs

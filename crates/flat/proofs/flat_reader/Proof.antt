@@ -1,6 +1,6 @@
 use borrow.Author.Needs.{needs}
-use Rattle.pierloft.proofs.flat_reader.Statement.{statement}
-use Rattle.pierloft.proofs.flat_reader.Tie as tie
+use Rattle.flat.proofs.flat_reader.Statement.{statement}
+use Rattle.flat.proofs.flat_reader.Tie as tie
 
 flag-requires : tie.Need-flag-requires
 flag-requires c κs = search needs

@@ -1,6 +1,6 @@
 use borrow.Author.Needs.{needs}
-use Rattle.pierloft.proofs.flat_hash.Statement.{statement}
-use Rattle.pierloft.proofs.flat_hash.Tie as tie
+use Rattle.flat.proofs.flat_hash.Statement.{statement}
+use Rattle.flat.proofs.flat_hash.Tie as tie
 
 enum-known-h : tie.Need-enum-known-h
 enum-known-h c = search needs

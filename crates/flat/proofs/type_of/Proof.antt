@@ -1,7 +1,7 @@
 use borrow.Author.Tests.{eq-eqb, ne-eqb}
-use Rattle.pierloft.specs.Flat.{typeOf}
-use Rattle.pierloft.proofs.type_of.Statement.{statement}
-use Rattle.pierloft.proofs.type_of.Tie as tie
+use Rattle.flat.specs.Flat.{typeOf}
+use Rattle.flat.proofs.type_of.Statement.{statement}
+use Rattle.flat.proofs.type_of.Tie as tie
 
 returns : tie.Need-returns
 unfolding typeOf

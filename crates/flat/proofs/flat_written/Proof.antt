@@ -1,6 +1,6 @@
 use borrow.Author.Needs.{needs}
-use Rattle.pierloft.proofs.flat_written.Statement.{statement}
-use Rattle.pierloft.proofs.flat_written.Tie as tie
+use Rattle.flat.proofs.flat_written.Statement.{statement}
+use Rattle.flat.proofs.flat_written.Tie as tie
 
 enum-known-a : tie.Need-enum-known-a
 enum-known-a c = search needs
