@@ -61,7 +61,7 @@ abbrev pub flatClear : ℕ → ℕ → FlatEntry
 flatClear keyspace next =
     record { number = 0; tag = 4; «value_type» = 0; count = 0; seqno = 0; keyspace = keyspace; checksum = 0; «key_at» = 0; «key_len» = 0; «value_at» = 0; «value_len» = 0; next = next }
 
-abbrev pub flatEntry : Dialect → Decoded → FlatEntry
+unfoldable pub flatEntry : Dialect → Decoded → FlatEntry
 flatEntry d (decoded.Start count seqno next) = flatStart count seqno next
 flatEntry d (decoded.Item code keyspace key keyLength value valueLength next) =
     flatItem (typeNumber d code) keyspace key keyLength value valueLength next
@@ -73,10 +73,10 @@ flatEntry d (decoded.Refused n) = noEntry n
 -- ---- reading
 
 -- a flag is 0 or anything else
-abbrev pub readerOf : FlatReader → Reader
+unfoldable pub readerOf : FlatReader → Reader
 readerOf r = record { position = r .position; ended = not (eqb (r .ended) 0); outcome = r .outcome }
 
-abbrev pub flatReader : Reader → FlatReader
+unfoldable pub flatReader : Reader → FlatReader
 flatReader r = record { position = r .position; ended = cond (r .ended) 1 0; outcome = r .outcome }
 
 abbrev pub noBatch : ℕ → ℕ → FlatReader → FlatStepped
@@ -84,16 +84,16 @@ noBatch number outcome goes =
     record { number = number; accepted = 0; outcome = outcome; seqno = 0; count = 0; body = 0; end = 0; next = 0; reader = goes }
 
 -- a step's answer, between the state that came and the one that goes; a refusal gives the first back as it came
-abbrev pub flatAnswer : FlatReader → FlatReader → Answer → FlatStepped
+unfoldable pub flatAnswer : FlatReader → FlatReader → Answer → FlatStepped
 flatAnswer came goes (answer.Accepted q c b e j) =
     record { number = 0; accepted = 1; outcome = 0; seqno = q; count = c; body = b; end = e; next = j; reader = goes }
 flatAnswer came goes (answer.Ended o) = noBatch 0 o goes
 flatAnswer came goes (answer.Refused n) = noBatch n 0 came
 
-abbrev pub flatStepped : FlatReader → Stepped → FlatStepped
+unfoldable pub flatStepped : FlatReader → Stepped → FlatStepped
 flatStepped came s = flatAnswer came (flatReader (s .reader)) (s .answer)
 
-abbrev pub flatKeep : Keep → FlatCount
+unfoldable pub flatKeep : Keep → FlatCount
 flatKeep (keeps.Bytes n) = record { number = 0; bytes = n }
 flatKeep (keeps.Refused n) = record { number = n; bytes = 0 }
 
@@ -113,7 +113,7 @@ flatSpan s = spanOf (s .number) (s .from) (s .to)
 
 -- ---- XXH3-64
 
-abbrev pub flatHash : Hashed → FlatHash
+unfoldable pub flatHash : Hashed → FlatHash
 flatHash (hashed.Sum h) = record { number = 0; hash = h }
 flatHash (hashed.Refused n) = record { number = n; hash = 0 }
 
@@ -123,22 +123,22 @@ flatHash (hashed.Refused n) = record { number = n; hash = 0 }
 unfoldable pub typeOf : ℕ → ValueType
 typeOf n = cond (eqb n 0) Value (cond (eqb n 1) Tombstone (cond (eqb n 2) WeakTombstone Indirection))
 
-abbrev pub flatWritten : Written → FlatCount
+unfoldable pub flatWritten : Written → FlatCount
 flatWritten (written.Wrote n) = record { number = 0; bytes = n }
 flatWritten (written.Refused n) = record { number = n; bytes = 0 }
 
-abbrev pub writerOf : FlatWriter → WriterState
+unfoldable pub writerOf : FlatWriter → WriterState
 writerOf w = record { position = w .position; start = w .start; «open» = not (eqb (w .«open») 0); left = w .left }
 
-abbrev pub flatWriter : WriterState → FlatWriter
+unfoldable pub flatWriter : WriterState → FlatWriter
 flatWriter s = record { position = s .position; start = s .start; «open» = cond (s .«open») 1 0; left = s .left }
 
 -- a call's answer, between the state that came and the one that goes; a refusal gives the first back as it came
-abbrev pub flatAnswered : FlatWriter → FlatWriter → Written → FlatReply
+unfoldable pub flatAnswered : FlatWriter → FlatWriter → Written → FlatReply
 flatAnswered came goes (written.Wrote n) = record { number = 0; bytes = n; writer = goes }
 flatAnswered came goes (written.Refused n) = record { number = n; bytes = 0; writer = came }
 
-abbrev pub flatReply : FlatWriter → Reply → FlatReply
+unfoldable pub flatReply : FlatWriter → Reply → FlatReply
 flatReply came r = flatAnswered came (flatWriter (r .state)) (r .answer)
 
 -- a value type that is none of the four is 32, before anything else is looked at: nothing is written

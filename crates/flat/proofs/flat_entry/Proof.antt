@@ -1,5 +1,6 @@
 use mathlib.Core.Path.{_∙_}
 use borrow.Author.Needs.{needs}
+use Rattle.flat.specs.Flat.{flatEntry}
 use Rattle.flat.proofs.flat_entry.Statement.{statement}
 use Rattle.flat.proofs.flat_entry.Tie as tie
 
@@ -43,21 +44,27 @@ no-entry-requires-2 : tie.Need-no-entry-requires-2
 no-entry-requires-2 c κs = search needs
 
 returns : tie.Need-returns
+unfolding flatEntry
 returns c = c .flat-start .ensures ∙ rw (c .before .before .e .given .1)
 
 returns-2 : tie.Need-returns-2
+unfolding flatEntry
 returns-2 c = c .flat-item .ensures ∙ rw (c .before .before .before .e2 .given .1, c .before .type-number .ensures)
 
 returns-3 : tie.Need-returns-3
+unfolding flatEntry
 returns-3 c = c .flat-end .ensures ∙ rw (c .before .before .e3 .given .1)
 
 returns-4 : tie.Need-returns-4
+unfolding flatEntry
 returns-4 c = c .flat-clear .ensures ∙ rw (c .before .before .e4 .given .1)
 
 returns-5 : tie.Need-returns-5
+unfolding flatEntry
 returns-5 c = c .no-entry .ensures ∙ rw (c .before .before .e5 .given .1)
 
 returns-6 : tie.Need-returns-6
+unfolding flatEntry
 returns-6 c = c .no-entry2 .ensures ∙ rw (c .before .before .e6 .given .1)
 
 pub flat-entry-spec : {M : Type 1} → statement M

@@ -1,4 +1,5 @@
 use borrow.Author.Needs.{needs}
+use Rattle.flat.specs.Flat.{flatKeep}
 use Rattle.flat.proofs.flat_keep.Statement.{statement}
 use Rattle.flat.proofs.flat_keep.Tie as tie
 
@@ -9,9 +10,11 @@ enum-known-k-2 : tie.Need-enum-known-k-2
 enum-known-k-2 c = search needs
 
 returns : tie.Need-returns
+unfolding flatKeep
 returns c = rw (c .before .k .given .1)
 
 returns-2 : tie.Need-returns-2
+unfolding flatKeep
 returns-2 c = rw (c .before .k2 .given .1)
 
 pub flat-keep-spec : {M : Type 1} → statement M

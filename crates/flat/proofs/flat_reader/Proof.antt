@@ -1,4 +1,5 @@
 use borrow.Author.Needs.{needs}
+use Rattle.flat.specs.Flat.{flatReader}
 use Rattle.flat.proofs.flat_reader.Statement.{statement}
 use Rattle.flat.proofs.flat_reader.Tie as tie
 
@@ -6,6 +7,7 @@ flag-requires : tie.Need-flag-requires
 flag-requires c κs = search needs
 
 returns : tie.Need-returns
+unfolding flatReader
 returns c = cc
 
 pub flat-reader-spec : {M : Type 1} → statement M

@@ -1,4 +1,5 @@
 use borrow.Author.Needs.{needs}
+use Rattle.flat.specs.Flat.{flatReply, flatAnswered}
 use Rattle.flat.proofs.flat_reply.Statement.{statement}
 use Rattle.flat.proofs.flat_reply.Tie as tie
 
@@ -12,9 +13,11 @@ enum-known-answer-2 : tie.Need-enum-known-answer-2
 enum-known-answer-2 c = search needs
 
 returns : tie.Need-returns
+unfolding flatReply flatAnswered
 returns c = rw (c .before .before .answer .given .1, c .flat-writer .ensures)
 
 returns-2 : tie.Need-returns-2
+unfolding flatReply flatAnswered
 returns-2 c = rw (c .before .answer2 .given .1)
 
 pub flat-reply-spec : {M : Type 1} → statement M

@@ -1,5 +1,6 @@
 use mathlib.Core.Path.{_∙_}
 use borrow.Author.Needs.{needs}
+use Rattle.flat.specs.Flat.{flatStepped, flatAnswer}
 use Rattle.flat.proofs.flat_stepped.Statement.{statement}
 use Rattle.flat.proofs.flat_stepped.Tie as tie
 
@@ -25,12 +26,15 @@ no-batch-requires-2 : tie.Need-no-batch-requires-2
 no-batch-requires-2 c κs = search needs
 
 returns : tie.Need-returns
+unfolding flatStepped flatAnswer
 returns c = rw (c .before .before .answer .given .1, c .flat-reader .ensures)
 
 returns-2 : tie.Need-returns-2
+unfolding flatStepped flatAnswer
 returns-2 c = c .no-batch .ensures ∙ rw (c .before .before .before .answer2 .given .1, c .before .flat-reader2 .ensures)
 
 returns-3 : tie.Need-returns-3
+unfolding flatStepped flatAnswer
 returns-3 c = c .no-batch2 .ensures ∙ rw (c .before .before .answer3 .given .1)
 
 pub flat-stepped-spec : {M : Type 1} → statement M

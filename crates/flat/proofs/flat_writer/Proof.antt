@@ -1,4 +1,5 @@
 use borrow.Author.Needs.{needs}
+use Rattle.flat.specs.Flat.{flatWriter}
 use Rattle.flat.proofs.flat_writer.Statement.{statement}
 use Rattle.flat.proofs.flat_writer.Tie as tie
 
@@ -6,6 +7,7 @@ flag-requires : tie.Need-flag-requires
 flag-requires c κs = search needs
 
 returns : tie.Need-returns
+unfolding flatWriter
 returns c = cc
 
 pub flat-writer-spec : {M : Type 1} → statement M

@@ -1,4 +1,5 @@
 use borrow.Author.Needs.{needs}
+use Rattle.flat.specs.Flat.{flatWritten}
 use Rattle.flat.proofs.flat_written.Statement.{statement}
 use Rattle.flat.proofs.flat_written.Tie as tie
 
@@ -9,9 +10,11 @@ enum-known-a-2 : tie.Need-enum-known-a-2
 enum-known-a-2 c = search needs
 
 returns : tie.Need-returns
+unfolding flatWritten
 returns c = rw (c .before .a .given .1)
 
 returns-2 : tie.Need-returns-2
+unfolding flatWritten
 returns-2 c = rw (c .before .a2 .given .1)
 
 pub flat-written-spec : {M : Type 1} → statement M

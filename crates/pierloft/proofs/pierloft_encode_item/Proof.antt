@@ -9,13 +9,13 @@ unfolding typedCount typedBytes
 returns c = (rw (lt-leb _ _ (c .if1 .taken)), rw (lt-leb _ _ (c .if1 .taken)))
 
 type-of-requires : tie.Need-type-of-requires
-type-of-requires c κs = search needs
+type-of-requires c κs = tt
 
 encode-item-requires : tie.Need-encode-item-requires
-encode-item-requires c κs = search needs
+encode-item-requires c κs = tt
 
 flat-written-requires : tie.Need-flat-written-requires
-flat-written-requires c κs = search needs
+flat-written-requires c κs = tt
 
 same-length : tie.Need-same-length
 same-length c = search needs
@@ -24,7 +24,9 @@ returns-2 : tie.Need-returns-2
 unfolding typedCount typedBytes
 returns-2 c =
     let t = le-leb _ _ (c .before .before .before .before .before .before .if1 .left) in
-    (rw t (cc), rw t (cc))
+    let e = c .before .before .before .encode-item .ensures in
+    let k = c .before .before .before .before .before .type-of .ensures in
+    (rw (t, c .flat-written .ensures, e .0, k), rw (t, e .1, k))
 
 pub pierloft-encode-item-spec : {M : Type 1} → statement M
 pierloft-encode-item-spec =

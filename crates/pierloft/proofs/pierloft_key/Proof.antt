@@ -2,7 +2,6 @@ use mathlib.Core.Path.{ap, _∙_}
 use Rattle.view.specs.View.{pairOf}
 use Rattle.view.proofs.Laws.{pair-within}
 use Rattle.flat.specs.Flat.{keySpan}
-use borrow.Author.Needs.{needs}
 use Rattle.pierloft.proofs.pierloft_key.Statement.{statement}
 use Rattle.pierloft.proofs.pierloft_key.Tie as tie
 use Rattle.pierloft.proofs.pierloft_key.Reads as reads
@@ -12,10 +11,10 @@ use Rattle.flat.proofs.span.Reads as span-reads
 use Rattle.view.proofs.pair_of.Reads as pair-of-reads
 
 decode-requires : tie.Need-decode-requires
-decode-requires c κs = search needs
+decode-requires c κs = tt
 
 pair-of-requires : tie.Need-pair-of-requires
-pair-of-requires c κs = search needs
+pair-of-requires c κs = tt
 
 span-requires : tie.Need-span-requires
 span-requires c κs = pair-within _ _ _ _ (c .pair-of .ensures ∙ ap pairOf (c .before .decode .ensures .0)) .key

@@ -9,16 +9,16 @@ unfolding typedReply typedBytes
 returns c = (rw (lt-leb _ _ (c .if1 .taken)), rw (lt-leb _ _ (c .if1 .taken)))
 
 type-of-requires : tie.Need-type-of-requires
-type-of-requires c κs = search needs
+type-of-requires c κs = tt
 
 writer-of-requires : tie.Need-writer-of-requires
-writer-of-requires c κs = search needs
+writer-of-requires c κs = tt
 
 write-raw-requires : tie.Need-write-raw-requires
-write-raw-requires c κs = search needs
+write-raw-requires c κs = tt
 
 flat-reply-requires : tie.Need-flat-reply-requires
-flat-reply-requires c κs = search needs
+flat-reply-requires c κs = tt
 
 same-length : tie.Need-same-length
 same-length c = search needs
@@ -27,7 +27,10 @@ returns-2 : tie.Need-returns-2
 unfolding typedReply typedBytes
 returns-2 c =
     let t = le-leb _ _ (c .before .before .before .before .before .before .before .if1 .left) in
-    (rw t (cc), rw t (cc))
+    let e = c .before .before .before .write-raw .ensures in
+    let w = c .before .before .before .before .writer-of .ensures in
+    let k = c .before .before .before .before .before .before .type-of .ensures in
+    (rw (t, c .flat-reply .ensures, e .0, w, k), rw (t, e .1, w, k))
 
 pub pierloft-write-raw-spec : {M : Type 1} → statement M
 pierloft-write-raw-spec =
