@@ -93,9 +93,12 @@ flatAnswer came goes (answer.Refused n) = noBatch n 0 came
 unfoldable pub flatStepped : FlatReader → Stepped → FlatStepped
 flatStepped came s = flatAnswer came (flatReader (s .reader)) (s .answer)
 
+abbrev pub refusedCount : ℕ → FlatCount
+refusedCount n = record { number = n; bytes = 0 }
+
 unfoldable pub flatKeep : Keep → FlatCount
 flatKeep (keeps.Bytes n) = record { number = 0; bytes = n }
-flatKeep (keeps.Refused n) = record { number = n; bytes = 0 }
+flatKeep (keeps.Refused n) = refusedCount n
 
 -- ---- views: a place and a length
 
@@ -125,7 +128,7 @@ typeOf n = cond (eqb n 0) Value (cond (eqb n 1) Tombstone (cond (eqb n 2) WeakTo
 
 unfoldable pub flatWritten : Written → FlatCount
 flatWritten (written.Wrote n) = record { number = 0; bytes = n }
-flatWritten (written.Refused n) = record { number = n; bytes = 0 }
+flatWritten (written.Refused n) = refusedCount n
 
 unfoldable pub writerOf : FlatWriter → WriterState
 writerOf w = record { position = w .position; start = w .start; «open» = not (eqb (w .«open») 0); left = w .left }
@@ -133,20 +136,24 @@ writerOf w = record { position = w .position; start = w .start; «open» = not (
 unfoldable pub flatWriter : WriterState → FlatWriter
 flatWriter s = record { position = s .position; start = s .start; «open» = cond (s .«open») 1 0; left = s .left }
 
--- a call's answer, between the state that came and the one that goes; a refusal gives the first back as it came
+-- a refusal gives the state back as it came
+abbrev pub refusedReply : FlatWriter → ℕ → FlatReply
+refusedReply came n = record { number = n; bytes = 0; writer = came }
+
+-- a call's answer, between the state that came and the one that goes
 unfoldable pub flatAnswered : FlatWriter → FlatWriter → Written → FlatReply
 flatAnswered came goes (written.Wrote n) = record { number = 0; bytes = n; writer = goes }
-flatAnswered came goes (written.Refused n) = record { number = n; bytes = 0; writer = came }
+flatAnswered came goes (written.Refused n) = refusedReply came n
 
 unfoldable pub flatReply : FlatWriter → Reply → FlatReply
 flatReply came r = flatAnswered came (flatWriter (r .state)) (r .answer)
 
 -- a value type that is none of the four is 32, before anything else is looked at: nothing is written
 unfoldable pub typedCount : ℕ → Encoded → FlatCount
-typedCount type e = cond (leb type 3) (flatWritten (e .answer)) (record { number = 32; bytes = 0 })
+typedCount type e = cond (leb type 3) (flatWritten (e .answer)) (refusedCount 32)
 
 unfoldable pub typedReply : ℕ → FlatWriter → Outcome → FlatReply
-typedReply type came o = cond (leb type 3) (flatReply came (o .reply)) (record { number = 32; bytes = 0; writer = came })
+typedReply type came o = cond (leb type 3) (flatReply came (o .reply)) (refusedReply came 32)
 
 unfoldable pub typedBytes : ℕ → List ℕ → List ℕ → List ℕ
 typedBytes type before after = cond (leb type 3) after before

@@ -1,9 +1,10 @@
 // The values of the other crates as what crosses to C: structs of numbers. An enum becomes a number and the fields of all its variants, a
-// flag 0 or not. Public: the structs; `flat_*`, from a call's answer; `*_of`, from what C hands over; `span`.
+// flag 0 or not. Public: the structs; `flat_*`, from a call's answer; `*_of`, from what C hands over; `is_type`, `refused_*`, `span`.
 ghost use mathlib.Core.Path.{_≡_};
 ghost use mathlib.Core.Bool.{cond};
 ghost use Prim.Native.Nat.{_≤_};
-ghost use Rattle.flat.specs.Flat.{typeNumber, noEntry, flatStart, flatItem, flatEnd, flatClear, flatEntry, noBatch, readerOf, flatReader, flatStepped, flatKeep, spanOf, flatHash, typeOf, flatWritten, writerOf, flatWriter, flatReply};
+ghost use lib.Dec.{leb};
+ghost use Rattle.flat.specs.Flat.{typeNumber, noEntry, flatStart, flatItem, flatEnd, flatClear, flatEntry, noBatch, readerOf, flatReader, flatStepped, refusedCount, flatKeep, spanOf, flatHash, typeOf, flatWritten, writerOf, flatWriter, refusedReply, flatReply};
 use dialect::Dialect;
 use dialect::ValueType;
 use entry::Decoded;
@@ -306,12 +307,18 @@ fn no_batch(number: u32, outcome: u32, reader: FlatReader) -> FlatStepped
     }
 }
 
+pub fn refused_count(number: u32) -> FlatCount
+    ensures { λ r. ⌜ r ≡ refusedCount number ⌝ }
+{
+    FlatCount { number, bytes: 0 }
+}
+
 pub fn flat_keep(k: Keep) -> FlatCount
     ensures { λ r. ⌜ r ≡ flatKeep k ⌝ }
 {
     match k {
         Keep::Bytes(bytes) => FlatCount { number: 0, bytes },
-        Keep::Refused(number) => FlatCount { number, bytes: 0 },
+        Keep::Refused(number) => refused_count(number),
     }
 }
 
@@ -342,6 +349,13 @@ pub fn flat_hash(h: Hashed) -> FlatHash
 
 // ---- entries written
 
+// Whether a number stands for one of the four types of value.
+pub fn is_type(number: u8) -> bool
+    ensures { λ r. ⌜ r ≡ leb number 3 ⌝ }
+{
+    number <= 3
+}
+
 pub fn type_of(number: u8) -> ValueType
     ensures { λ r. ⌜ r ≡ typeOf number ⌝ }
 {
@@ -362,7 +376,7 @@ pub fn flat_written(a: encode::Answer) -> FlatCount
 {
     match a {
         encode::Answer::Wrote(bytes) => FlatCount { number: 0, bytes },
-        encode::Answer::Refused(number) => FlatCount { number, bytes: 0 },
+        encode::Answer::Refused(number) => refused_count(number),
     }
 }
 
@@ -390,6 +404,16 @@ fn flat_writer(s: WriterState) -> FlatWriter
     }
 }
 
+pub fn refused_reply(came: FlatWriter, number: u32) -> FlatReply
+    ensures { λ r. ⌜ r ≡ refusedReply came number ⌝ }
+{
+    FlatReply {
+        number,
+        bytes: 0,
+        writer: came,
+    }
+}
+
 pub fn flat_reply(came: FlatWriter, r: Reply) -> FlatReply
     ensures { λ x. ⌜ x ≡ flatReply came r ⌝ }
 {
@@ -401,10 +425,6 @@ pub fn flat_reply(came: FlatWriter, r: Reply) -> FlatReply
             bytes,
             writer: flat_writer(state),
         },
-        encode::Answer::Refused(number) => FlatReply {
-            number,
-            bytes: 0,
-            writer: came,
-        },
+        encode::Answer::Refused(number) => refused_reply(came, number),
     }
 }

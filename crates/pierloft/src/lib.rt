@@ -30,7 +30,10 @@ use flat::flat_keep;
 use flat::flat_reply;
 use flat::flat_stepped;
 use flat::flat_written;
+use flat::is_type;
 use flat::reader_of;
+use flat::refused_count;
+use flat::refused_reply;
 use flat::span;
 use flat::type_of;
 use flat::writer_of;
@@ -174,11 +177,8 @@ pub extern "C" fn pierloft_encode_item(
 ) -> FlatCount
     ensures { λ r. ⌜ (r ≡ typedCount «value_type» (encoded d (body (item (codeOf d (typeOf «value_type»)) keyspace (now (key .entry)) (now (value .entry)))) (now (buf .entry)))) × (now (buf .exit) ≡ typedBytes «value_type» (now (buf .entry)) (encoded d (body (item (codeOf d (typeOf «value_type»)) keyspace (now (key .entry)) (now (value .entry)))) (now (buf .entry)) .buffer)) ⌝ }
 {
-    if 3 < value_type {
-        return FlatCount {
-            number: 32,
-            bytes: 0,
-        };
+    if !is_type(value_type) {
+        return refused_count(32);
     }
     let kind = type_of(value_type);
     flat_written(encode::encode_item(buf, d, kind, keyspace, key, value))
@@ -228,12 +228,8 @@ pub extern "C" fn pierloft_put_item(
 ) -> FlatReply
     ensures { λ r. ⌜ (r ≡ typedReply «value_type» writer (putCall d (now (buf .entry)) (writerOf writer) (item (codeOf d (typeOf «value_type»)) keyspace (now (key .entry)) (now (value .entry))))) × (now (buf .exit) ≡ typedBytes «value_type» (now (buf .entry)) (putCall d (now (buf .entry)) (writerOf writer) (item (codeOf d (typeOf «value_type»)) keyspace (now (key .entry)) (now (value .entry))) .bytes)) ⌝ }
 {
-    if 3 < value_type {
-        return FlatReply {
-            number: 32,
-            bytes: 0,
-            writer,
-        };
+    if !is_type(value_type) {
+        return refused_reply(writer, 32);
     }
     let kind = type_of(value_type);
     flat_reply(
@@ -277,12 +273,8 @@ pub extern "C" fn pierloft_write_raw(
 ) -> FlatReply
     ensures { λ r. ⌜ (r ≡ typedReply «value_type» writer (writeCall d (now (buf .entry)) (writerOf writer) seqno (item (codeOf d (typeOf «value_type»)) keyspace (now (key .entry)) (now (value .entry))))) × (now (buf .exit) ≡ typedBytes «value_type» (now (buf .entry)) (writeCall d (now (buf .entry)) (writerOf writer) seqno (item (codeOf d (typeOf «value_type»)) keyspace (now (key .entry)) (now (value .entry))) .bytes)) ⌝ }
 {
-    if 3 < value_type {
-        return FlatReply {
-            number: 32,
-            bytes: 0,
-            writer,
-        };
+    if !is_type(value_type) {
+        return refused_reply(writer, 32);
     }
     let kind = type_of(value_type);
     flat_reply(

@@ -8,34 +8,34 @@ enum-known-e : tie.Need-enum-known-e
 enum-known-e c = search needs
 
 flat-start-requires : tie.Need-flat-start-requires
-flat-start-requires c κs = search needs
+flat-start-requires c κs = tt
 
 enum-known-e-2 : tie.Need-enum-known-e-2
 enum-known-e-2 c = search needs
 
 type-number-requires : tie.Need-type-number-requires
-type-number-requires c κs = search needs
+type-number-requires c κs = tt
 
 flat-item-requires : tie.Need-flat-item-requires
-flat-item-requires c κs = search needs
+flat-item-requires c κs = tt
 
 enum-known-e-3 : tie.Need-enum-known-e-3
 enum-known-e-3 c = search needs
 
 flat-end-requires : tie.Need-flat-end-requires
-flat-end-requires c κs = search needs
+flat-end-requires c κs = tt
 
 enum-known-e-4 : tie.Need-enum-known-e-4
 enum-known-e-4 c = search needs
 
 flat-clear-requires : tie.Need-flat-clear-requires
-flat-clear-requires c κs = search needs
+flat-clear-requires c κs = tt
 
 enum-known-e-5 : tie.Need-enum-known-e-5
 enum-known-e-5 c = search needs
 
 no-entry-requires : tie.Need-no-entry-requires
-no-entry-requires c κs = search needs
+no-entry-requires c κs = tt
 
 enum-known-e-6 : tie.Need-enum-known-e-6
 enum-known-e-6 c = search needs

@@ -8,7 +8,7 @@ enum-known-answer : tie.Need-enum-known-answer
 enum-known-answer c = search needs
 
 flat-reader-requires : tie.Need-flat-reader-requires
-flat-reader-requires c κs = search needs
+flat-reader-requires c κs = tt
 
 enum-known-answer-2 : tie.Need-enum-known-answer-2
 enum-known-answer-2 c = search needs
@@ -17,7 +17,7 @@ flat-reader-requires-2 : tie.Need-flat-reader-requires-2
 flat-reader-requires-2 c κs = search needs
 
 no-batch-requires : tie.Need-no-batch-requires
-no-batch-requires c κs = search needs
+no-batch-requires c κs = tt
 
 enum-known-answer-3 : tie.Need-enum-known-answer-3
 enum-known-answer-3 c = search needs

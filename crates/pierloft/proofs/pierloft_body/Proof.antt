@@ -3,10 +3,6 @@ use Rattle.view.proofs.Laws.{body-within}
 use Rattle.flat.specs.Flat.{flatSpan}
 use Rattle.pierloft.proofs.pierloft_body.Statement.{statement}
 use Rattle.pierloft.proofs.pierloft_body.Tie as tie
-use Rattle.pierloft.proofs.pierloft_body.Reads as reads
-use Rattle.pierloft.proofs.pierloft_body.Lts as lts
-use Rattle.flat.proofs.span.Reads as span-reads
-use Rattle.view.proofs.body_span.Reads as body-span-reads
 
 body-span-requires : tie.Need-body-span-requires
 body-span-requires c κs = tt

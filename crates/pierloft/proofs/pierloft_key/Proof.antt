@@ -4,11 +4,6 @@ use Rattle.view.proofs.Laws.{pair-within}
 use Rattle.flat.specs.Flat.{keySpan}
 use Rattle.pierloft.proofs.pierloft_key.Statement.{statement}
 use Rattle.pierloft.proofs.pierloft_key.Tie as tie
-use Rattle.pierloft.proofs.pierloft_key.Reads as reads
-use Rattle.pierloft.proofs.pierloft_key.Lts as lts
-use Rattle.entry.proofs.decode.Reads as decode-reads
-use Rattle.flat.proofs.span.Reads as span-reads
-use Rattle.view.proofs.pair_of.Reads as pair-of-reads
 
 decode-requires : tie.Need-decode-requires
 decode-requires c κs = tt
