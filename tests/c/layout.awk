@@ -1,8 +1,9 @@
-# Reads the #[repr(C)] structs and the exported functions of crates/pierloft/src/lib.rt and prints lines of C that hold include/pierloft.h
-# to them: every struct's size and alignment, each field's offset and width, by the rules of repr(C); and every function's type.
+# Reads the #[repr(C)] structs and the exported functions of the crates behind the static library, and prints lines of C that hold
+# include/pierloft.h to them: every struct's size and alignment, each field's offset and width, by the rules of repr(C); and every
+# function's type.
 function fail(m) { print "layout.awk: " FILENAME ":" FNR ": " m > "/dev/stderr"; bad = 1; exit 1 }
-function c_name(flat,    s) { # FlatReader: pierloft_reader
-    s = substr(flat, 5)
+function c_name(s) { # FlatReader: pierloft_reader
+    sub(/^Flat/, "", s)
     return "pierloft_" tolower(s)
 }
 function width(t,    n) {
@@ -25,7 +26,7 @@ function c_type(t) {
     if (t == "usize") return "size_t"
     if (t ~ /^u(8|16|32|64)$/) return "uint" substr(t, 2) "_t"
     if (t in sizes) return c_name(t)
-    if (t ~ /^&mut Flat/) return c_type(substr(t, 6)) " *"
+    if (t ~ /^&mut /) return c_type(substr(t, 6)) " *"
     fail("no C type for " t)
 }
 function prototype(text,    f, inner, result, n, part, i, t, list) {

@@ -7,7 +7,7 @@ command -v cc >/dev/null || {
     echo 'c: not run: no C compiler'
     exit 77
 }
-archive=target/staticlib/libpierloft.a source=crates/pierloft/src/lib.rt out=target/c
+archive=target/staticlib/libpierloft.a out=target/c
 mkdir -p "$out"
 if [ ! -f "$archive" ] || [ -n "$(find crates -name '*.rt' -newer "$archive")" ]; then
     echo 'c: building the static library'
@@ -16,7 +16,7 @@ if [ ! -f "$archive" ] || [ -n "$(find crates -name '*.rt' -newer "$archive")" ]
         exit 1
     }
 fi
-awk -f tests/c/layout.awk "$source" >"$out/layout.h"
+awk -f tests/c/layout.awk crates/dialect/src/lib.rt crates/stream/src/lib.rt crates/flat/src/lib.rt crates/pierloft/src/lib.rt >"$out/layout.h"
 cc -std=c11 -Wall -Wextra -Wpedantic -Werror -O1 -Iinclude "-I$out" tests/c/answers.c "$archive" -o "$out/answers"
 "$out/answers"
 # the header declares what the archive has, and no more

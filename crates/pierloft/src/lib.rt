@@ -1,13 +1,12 @@
-// What Rust and C call: numbers, slices and structs of numbers. include/pierloft.h declares and documents each exported function. A layer
-// over the calls of the other crates and no more: enums become numbers, and a flag is 0 or not. Public: the functions pierloft_*.
+// What Rust and C call. include/pierloft.h declares and documents each function. A layer over the calls of the other crates and no more:
+// crate flat turns what cannot cross to C into numbers. Public: the functions pierloft_*.
 ghost use mathlib.Core.Path.{_≡_};
-ghost use mathlib.Core.Bool.{cond, not};
+ghost use mathlib.Core.Bool.{not};
 ghost use Rattle.dialect.specs.Dialect.{good, codeOf, SHIPPED as shippedDialect, TEST as testDialect};
 ghost use Rattle.refusal.specs.Refusal.{whenOf};
 ghost use Rattle.entry.specs.Entry.{start, item, clear, body, end};
 ghost use Rattle.entry.specs.Decoded.{decoded};
 ghost use Rattle.encode.specs.Encoding.{encoded};
-ghost use Prim.Native.Nat.{_≤_};
 ghost use Rattle.view.specs.View.{pairOf, bodySpan};
 ghost use Rattle.xxh3.specs.Xxh3.{defaultSecret, hash};
 ghost use Rattle.xxh3.specs.Hashed.{hashed};
@@ -15,413 +14,71 @@ ghost use Rattle.stream.specs.Stream.{fresh};
 ghost use Rattle.stream.specs.Calls.{absorbed, finished};
 ghost use Rattle.reader.specs.Reading.{stepped, keptOf};
 ghost use Rattle.writer.specs.Writing.{openCall, putCall, closeCall, writeCall};
-ghost use Rattle.pierloft.specs.Flat.{dialectOf, flatDialect, typeNumber, noEntry, flatStart, flatItem, flatEnd, flatClear, flatEntry, noBatch, readerOf, flatReader, flatStepped, flatKeep, spanOf, keySpan, valueSpan, flatSpan, flatHash, hasherOf, flatHasher, flatAbsorbed, typeOf, flatWritten, writerOf, flatWriter, flatReply, typedCount, typedReply, typedBytes};
+ghost use Rattle.flat.specs.Flat.{flatEntry, readerOf, flatStepped, flatKeep, keySpan, valueSpan, flatSpan, flatHash, typeOf, flatWritten, writerOf, flatReply, typedCount, typedReply, typedBytes};
 use dialect::Dialect;
-use dialect::ValueType;
-use entry::Decoded;
-use reader::Answer;
-use reader::Keep;
-use reader::Reader;
-use reader::Stepped;
+use flat::FlatCount;
+use flat::FlatEntry;
+use flat::FlatHash;
+use flat::FlatReader;
+use flat::FlatReply;
+use flat::FlatSpan;
+use flat::FlatStepped;
+use flat::FlatWriter;
+use flat::flat_entry;
+use flat::flat_hash;
+use flat::flat_keep;
+use flat::flat_reply;
+use flat::flat_stepped;
+use flat::flat_written;
+use flat::is_type;
+use flat::reader_of;
+use flat::refused_count;
+use flat::refused_reply;
+use flat::span;
+use flat::type_of;
+use flat::writer_of;
 use stream::Absorbed;
 use stream::Hasher;
-use writer::Reply;
-use writer::WriterState;
-use xxh3::Hashed;
-
-#[repr(C)]
-pub struct FlatDialect {
-    pub magic: [u8; 8],
-    pub length: usize,
-    pub value: u8,
-    pub tombstone: u8,
-    pub weak: u8,
-    pub indirection: u8,
-    pub none: u8,
-}
-
-#[repr(C)]
-pub struct FlatEntry {
-    pub number: u32,
-    pub tag: u8,
-    pub value_type: u8,
-    pub count: u64,
-    pub seqno: u64,
-    pub keyspace: u64,
-    pub checksum: u64,
-    pub key_at: usize,
-    pub key_len: usize,
-    pub value_at: usize,
-    pub value_len: usize,
-    pub next: usize,
-}
-
-#[repr(C)]
-pub struct FlatReader {
-    pub position: usize,
-    pub ended: u32,
-    pub outcome: u32,
-}
-
-#[repr(C)]
-pub struct FlatStepped {
-    pub number: u32,
-    pub accepted: u32,
-    pub outcome: u32,
-    pub seqno: u64,
-    pub count: u64,
-    pub body: usize,
-    pub end: usize,
-    pub next: usize,
-    pub reader: FlatReader,
-}
-
-#[repr(C)]
-pub struct FlatCount {
-    pub number: u32,
-    pub bytes: usize,
-}
-
-#[repr(C)]
-pub struct FlatSpan {
-    pub number: u32,
-    pub at: usize,
-    pub length: usize,
-}
-
-#[repr(C)]
-pub struct FlatHash {
-    pub number: u32,
-    pub hash: u64,
-}
-
-#[repr(C)]
-pub struct FlatHasher {
-    pub acc: [u64; 8],
-    pub hold: [u8; 256],
-    pub total: u64,
-}
-
-#[repr(C)]
-pub struct FlatAbsorbed {
-    pub number: u32,
-    pub state: FlatHasher,
-}
-
-#[repr(C)]
-pub struct FlatWriter {
-    pub position: usize,
-    pub start: usize,
-    pub open: u32,
-    pub left: u64,
-}
-
-#[repr(C)]
-pub struct FlatReply {
-    pub number: u32,
-    pub bytes: usize,
-    pub writer: FlatWriter,
-}
 
 // ---- dialects
 
-fn dialect_of(flat: FlatDialect) -> Dialect
-    ensures { λ r. ⌜ r ≡ dialectOf flat ⌝ }
+#[no_mangle]
+pub extern "C" fn pierloft_shipped() -> Dialect
+    ensures { λ r. ⌜ r ≡ shippedDialect ⌝ }
 {
-    let magic = flat.magic;
-    Dialect {
-        magic,
-        length: flat.length,
-        value: flat.value,
-        tombstone: flat.tombstone,
-        weak: flat.weak,
-        indirection: flat.indirection,
-        none: flat.none,
-    }
-}
-
-fn flat_dialect(d: Dialect) -> FlatDialect
-    ensures { λ r. ⌜ r ≡ flatDialect d ⌝ }
-{
-    let magic = d.magic;
-    FlatDialect {
-        magic,
-        length: d.length,
-        value: d.value,
-        tombstone: d.tombstone,
-        weak: d.weak,
-        indirection: d.indirection,
-        none: d.none,
-    }
+    Dialect::shipped()
 }
 
 #[no_mangle]
-pub extern "C" fn pierloft_shipped() -> FlatDialect
-    ensures { λ r. ⌜ r ≡ flatDialect shippedDialect ⌝ }
+pub extern "C" fn pierloft_test() -> Dialect
+    ensures { λ r. ⌜ r ≡ testDialect ⌝ }
 {
-    flat_dialect(Dialect::shipped())
+    Dialect::test()
 }
 
 #[no_mangle]
-pub extern "C" fn pierloft_test() -> FlatDialect
-    ensures { λ r. ⌜ r ≡ flatDialect testDialect ⌝ }
+pub extern "C" fn pierloft_check(d: Dialect) -> u32
+    ensures { λ r. ⌜ r ≡ whenOf (not (good d)) 20 ⌝ }
 {
-    flat_dialect(Dialect::test())
-}
-
-#[no_mangle]
-pub extern "C" fn pierloft_check(d: FlatDialect) -> u32
-    ensures { λ r. ⌜ r ≡ whenOf (not (good (dialectOf d))) 20 ⌝ }
-{
-    refusal::when(!dialect_of(d).is_good(), 20)
+    refusal::when(!d.is_good(), 20)
 }
 
 // ---- entries
 
-fn type_number(d: Dialect, code: u8) -> u8
-    ensures { λ r. ⌜ r ≡ typeNumber d code ⌝ }
-{
-    if code == d.value {
-        return 0;
-    }
-    if code == d.tombstone {
-        return 1;
-    }
-    if code == d.weak {
-        return 2;
-    }
-    3
-}
-
-fn no_entry(number: u32) -> FlatEntry
-    ensures { λ r. ⌜ r ≡ noEntry number ⌝ }
-{
-    FlatEntry {
-        number,
-        tag: 0,
-        value_type: 0,
-        count: 0,
-        seqno: 0,
-        keyspace: 0,
-        checksum: 0,
-        key_at: 0,
-        key_len: 0,
-        value_at: 0,
-        value_len: 0,
-        next: 0,
-    }
-}
-
-fn flat_item(
-    value_type: u8,
-    keyspace: u64,
-    key_at: usize,
-    key_len: usize,
-    value_at: usize,
-    value_len: usize,
-    next: usize,
-) -> FlatEntry
-    ensures { λ r. ⌜ r ≡ flatItem «value_type» keyspace «key_at» «key_len» «value_at» «value_len» next ⌝ }
-{
-    FlatEntry {
-        number: 0,
-        tag: 2,
-        value_type,
-        count: 0,
-        seqno: 0,
-        keyspace,
-        checksum: 0,
-        key_at,
-        key_len,
-        value_at,
-        value_len,
-        next,
-    }
-}
-
-fn flat_start(count: u64, seqno: u64, next: usize) -> FlatEntry
-    ensures { λ r. ⌜ r ≡ flatStart count seqno next ⌝ }
-{
-    FlatEntry {
-        number: 0,
-        tag: 1,
-        value_type: 0,
-        count,
-        seqno,
-        keyspace: 0,
-        checksum: 0,
-        key_at: 0,
-        key_len: 0,
-        value_at: 0,
-        value_len: 0,
-        next,
-    }
-}
-
-fn flat_end(checksum: u64, next: usize) -> FlatEntry
-    ensures { λ r. ⌜ r ≡ flatEnd checksum next ⌝ }
-{
-    FlatEntry {
-        number: 0,
-        tag: 3,
-        value_type: 0,
-        count: 0,
-        seqno: 0,
-        keyspace: 0,
-        checksum,
-        key_at: 0,
-        key_len: 0,
-        value_at: 0,
-        value_len: 0,
-        next,
-    }
-}
-
-fn flat_clear(keyspace: u64, next: usize) -> FlatEntry
-    ensures { λ r. ⌜ r ≡ flatClear keyspace next ⌝ }
-{
-    FlatEntry {
-        number: 0,
-        tag: 4,
-        value_type: 0,
-        count: 0,
-        seqno: 0,
-        keyspace,
-        checksum: 0,
-        key_at: 0,
-        key_len: 0,
-        value_at: 0,
-        value_len: 0,
-        next,
-    }
-}
-
-fn flat_entry(d: Dialect, e: Decoded) -> FlatEntry
-    ensures { λ r. ⌜ r ≡ flatEntry d e ⌝ }
-{
-    match e {
-        Decoded::Start { count, seqno, next } => flat_start(count, seqno, next),
-        Decoded::Item {
-            value_type,
-            keyspace,
-            key_at,
-            key_len,
-            value_at,
-            value_len,
-            next,
-        } => flat_item(
-            type_number(d, value_type),
-            keyspace,
-            key_at,
-            key_len,
-            value_at,
-            value_len,
-            next,
-        ),
-        Decoded::End { checksum, next } => flat_end(checksum, next),
-        Decoded::Clear { keyspace, next } => flat_clear(keyspace, next),
-        Decoded::Fault(n) => no_entry(n),
-        Decoded::Refused(n) => no_entry(n),
-    }
-}
-
 #[no_mangle]
-pub extern "C" fn pierloft_decode(image: &[u8], at: usize, d: FlatDialect) -> FlatEntry
-    ensures { λ r. ⌜ r ≡ flatEntry (dialectOf d) (decoded (dialectOf d) (now (image .entry)) at) ⌝ }
+pub extern "C" fn pierloft_decode(image: &[u8], at: usize, d: Dialect) -> FlatEntry
+    ensures { λ r. ⌜ r ≡ flatEntry d (decoded d (now (image .entry)) at) ⌝ }
 {
-    let dialect = dialect_of(d);
-    flat_entry(dialect, entry::decode(image, at, dialect))
+    flat_entry(d, entry::decode(image, at, d))
 }
 
 // ---- reading
 
-fn flag(x: bool) -> u32
-    ensures { λ r. ⌜ r ≡ cond x 1 0 ⌝ }
-{
-    x as u32
-}
-
-fn reader_of(flat: FlatReader) -> Reader
-    ensures { λ s. ⌜ s ≡ readerOf flat ⌝ }
-{
-    Reader {
-        position: flat.position,
-        ended: flat.ended != 0,
-        outcome: flat.outcome,
-    }
-}
-
-fn flat_reader(r: Reader) -> FlatReader
-    ensures { λ s. ⌜ s ≡ flatReader r ⌝ }
-{
-    FlatReader {
-        position: r.position,
-        ended: flag(r.ended),
-        outcome: r.outcome,
-    }
-}
-
-fn flat_stepped(came: FlatReader, s: Stepped) -> FlatStepped
-    ensures { λ r. ⌜ r ≡ flatStepped came s ⌝ }
-{
-    let answer = s.answer;
-    let reader = s.reader;
-    match answer {
-        Answer::Accepted {
-            seqno,
-            count,
-            body,
-            end,
-            next,
-        } => FlatStepped {
-            number: 0,
-            accepted: 1,
-            outcome: 0,
-            seqno,
-            count,
-            body,
-            end,
-            next,
-            reader: flat_reader(reader),
-        },
-        Answer::Ended(outcome) => no_batch(0, outcome, flat_reader(reader)),
-        Answer::Refused(number) => no_batch(number, 0, came),
-    }
-}
-
-fn no_batch(number: u32, outcome: u32, reader: FlatReader) -> FlatStepped
-    ensures { λ r. ⌜ r ≡ noBatch number outcome reader ⌝ }
-{
-    FlatStepped {
-        number,
-        accepted: 0,
-        outcome,
-        seqno: 0,
-        count: 0,
-        body: 0,
-        end: 0,
-        next: 0,
-        reader,
-    }
-}
-
 #[no_mangle]
-pub extern "C" fn pierloft_step(image: &[u8], reader: FlatReader, d: FlatDialect) -> FlatStepped
-    ensures { λ r. ⌜ r ≡ flatStepped reader (stepped (dialectOf d) (hash defaultSecret) (now (image .entry)) (readerOf reader)) ⌝ }
+pub extern "C" fn pierloft_step(image: &[u8], reader: FlatReader, d: Dialect) -> FlatStepped
+    ensures { λ r. ⌜ r ≡ flatStepped reader (stepped d (hash defaultSecret) (now (image .entry)) (readerOf reader)) ⌝ }
 {
-    flat_stepped(
-        reader,
-        reader::step(image, reader_of(reader), dialect_of(d)),
-    )
-}
-
-fn flat_keep(k: Keep) -> FlatCount
-    ensures { λ r. ⌜ r ≡ flatKeep k ⌝ }
-{
-    match k {
-        Keep::Bytes(bytes) => FlatCount { number: 0, bytes },
-        Keep::Refused(number) => FlatCount { number, bytes: 0 },
-    }
+    flat_stepped(reader, reader::step(image, reader_of(reader), d))
 }
 
 #[no_mangle]
@@ -433,31 +90,19 @@ pub extern "C" fn pierloft_kept(length: usize, reader: FlatReader) -> FlatCount
 
 // ---- views
 
-// Assumes that it does not end before it begins.
-fn span(number: u32, from: usize, to: usize) -> FlatSpan
-    requires { ⌜ from ≤ to ⌝ }
-    ensures { λ r. ⌜ r ≡ spanOf number from to ⌝ }
-{
-    FlatSpan {
-        number,
-        at: from,
-        length: to - from,
-    }
-}
-
 #[no_mangle]
-pub extern "C" fn pierloft_key(image: &[u8], at: usize, d: FlatDialect) -> FlatSpan
-    ensures { λ r. ⌜ r ≡ keySpan (pairOf (decoded (dialectOf d) (now (image .entry)) at)) ⌝ }
+pub extern "C" fn pierloft_key(image: &[u8], at: usize, d: Dialect) -> FlatSpan
+    ensures { λ r. ⌜ r ≡ keySpan (pairOf (decoded d (now (image .entry)) at)) ⌝ }
 {
-    let pair = view::pair_of(entry::decode(image, at, dialect_of(d)));
+    let pair = view::pair_of(entry::decode(image, at, d));
     span(pair.number, pair.key, pair.value)
 }
 
 #[no_mangle]
-pub extern "C" fn pierloft_value(image: &[u8], at: usize, d: FlatDialect) -> FlatSpan
-    ensures { λ r. ⌜ r ≡ valueSpan (pairOf (decoded (dialectOf d) (now (image .entry)) at)) ⌝ }
+pub extern "C" fn pierloft_value(image: &[u8], at: usize, d: Dialect) -> FlatSpan
+    ensures { λ r. ⌜ r ≡ valueSpan (pairOf (decoded d (now (image .entry)) at)) ⌝ }
 {
-    let pair = view::pair_of(entry::decode(image, at, dialect_of(d)));
+    let pair = view::pair_of(entry::decode(image, at, d));
     span(pair.number, pair.value, pair.next)
 }
 
@@ -471,49 +116,6 @@ pub extern "C" fn pierloft_body(length: usize, from: usize, to: usize) -> FlatSp
 
 // ---- XXH3-64
 
-fn flat_hash(h: Hashed) -> FlatHash
-    ensures { λ r. ⌜ r ≡ flatHash h ⌝ }
-{
-    match h {
-        Hashed::Sum(hash) => FlatHash { number: 0, hash },
-        Hashed::Refused(number) => FlatHash { number, hash: 0 },
-    }
-}
-
-fn hasher_of(flat: FlatHasher) -> Hasher
-    ensures { λ r. ⌜ r ≡ hasherOf flat ⌝ }
-{
-    let acc = flat.acc;
-    let hold = flat.hold;
-    Hasher {
-        acc,
-        hold,
-        total: flat.total,
-    }
-}
-
-fn flat_hasher(h: Hasher) -> FlatHasher
-    ensures { λ r. ⌜ r ≡ flatHasher h ⌝ }
-{
-    let acc = h.acc;
-    let hold = h.hold;
-    FlatHasher {
-        acc,
-        hold,
-        total: h.total,
-    }
-}
-
-fn flat_absorbed(a: Absorbed) -> FlatAbsorbed
-    ensures { λ r. ⌜ r ≡ flatAbsorbed a ⌝ }
-{
-    let state = a.state;
-    FlatAbsorbed {
-        number: a.number,
-        state: flat_hasher(state),
-    }
-}
-
 #[no_mangle]
 pub extern "C" fn pierloft_xxh3_64(bytes: &[u8]) -> FlatHash
     ensures { λ r. ⌜ r ≡ flatHash (hashed (now (bytes .entry))) ⌝ }
@@ -522,228 +124,146 @@ pub extern "C" fn pierloft_xxh3_64(bytes: &[u8]) -> FlatHash
 }
 
 #[no_mangle]
-pub extern "C" fn pierloft_hasher_new() -> FlatHasher
-    ensures { λ r. ⌜ r ≡ flatHasher fresh ⌝ }
+pub extern "C" fn pierloft_hasher_new() -> Hasher
+    ensures { λ r. ⌜ r ≡ fresh ⌝ }
 {
-    flat_hasher(Hasher::new())
+    Hasher::new()
 }
 
 #[no_mangle]
-pub extern "C" fn pierloft_absorb(state: FlatHasher, piece: &[u8]) -> FlatAbsorbed
-    ensures { λ r. ⌜ r ≡ flatAbsorbed (absorbed (hasherOf state) (now (piece .entry))) ⌝ }
+pub extern "C" fn pierloft_absorb(state: Hasher, piece: &[u8]) -> Absorbed
+    ensures { λ r. ⌜ r ≡ absorbed state (now (piece .entry)) ⌝ }
 {
-    flat_absorbed(stream::absorb(hasher_of(state), piece))
+    stream::absorb(state, piece)
 }
 
 #[no_mangle]
-pub extern "C" fn pierloft_finish(state: FlatHasher) -> FlatHash
-    ensures { λ r. ⌜ r ≡ flatHash (finished (hasherOf state)) ⌝ }
+pub extern "C" fn pierloft_finish(state: Hasher) -> FlatHash
+    ensures { λ r. ⌜ r ≡ flatHash (finished state) ⌝ }
 {
-    flat_hash(stream::finish(hasher_of(state)))
+    flat_hash(stream::finish(state))
 }
 
 // `pierloft_absorb` on a state that is lent and changed in place.
 #[no_mangle]
-pub extern "C" fn pierloft_absorb_into(state: &mut FlatHasher, piece: &[u8]) -> u32
-    ensures { λ r. ⌜ (r ≡ flatAbsorbed (absorbed (hasherOf (now (state .entry))) (now (piece .entry))) .number) × (now (state .exit) ≡ flatAbsorbed (absorbed (hasherOf (now (state .entry))) (now (piece .entry))) .state) ⌝ }
+pub extern "C" fn pierloft_absorb_into(state: &mut Hasher, piece: &[u8]) -> u32
+    ensures { λ r. ⌜ (r ≡ absorbed (now (state .entry)) (now (piece .entry)) .number) × (now (state .exit) ≡ absorbed (now (state .entry)) (now (piece .entry)) .state) ⌝ }
 {
-    let t = pierloft_absorb(*state, piece);
-    *state = t.state;
-    t.number
+    stream::absorb_into(state, piece)
 }
 
 // ---- entries written
 
-fn type_of(number: u8) -> ValueType
-    ensures { λ r. ⌜ r ≡ typeOf number ⌝ }
-{
-    if number == 0 {
-        return ValueType::Value;
-    }
-    if number == 1 {
-        return ValueType::Tombstone;
-    }
-    if number == 2 {
-        return ValueType::WeakTombstone;
-    }
-    ValueType::Indirection
-}
-
-fn flat_written(a: encode::Answer) -> FlatCount
-    ensures { λ r. ⌜ r ≡ flatWritten a ⌝ }
-{
-    match a {
-        encode::Answer::Wrote(bytes) => FlatCount { number: 0, bytes },
-        encode::Answer::Refused(number) => FlatCount { number, bytes: 0 },
-    }
-}
-
 #[no_mangle]
 pub extern "C" fn pierloft_encode_start(
     buf: &mut [u8],
-    d: FlatDialect,
+    d: Dialect,
     count: u32,
     seqno: u64,
 ) -> FlatCount
-    ensures { λ r. ⌜ (r ≡ flatWritten (encoded (dialectOf d) (start count seqno) (now (buf .entry)) .answer)) × (now (buf .exit) ≡ encoded (dialectOf d) (start count seqno) (now (buf .entry)) .buffer) ⌝ }
+    ensures { λ r. ⌜ (r ≡ flatWritten (encoded d (start count seqno) (now (buf .entry)) .answer)) × (now (buf .exit) ≡ encoded d (start count seqno) (now (buf .entry)) .buffer) ⌝ }
 {
-    flat_written(encode::encode_start(buf, dialect_of(d), count, seqno))
+    flat_written(encode::encode_start(buf, d, count, seqno))
 }
 
 #[no_mangle]
 pub extern "C" fn pierloft_encode_item(
     buf: &mut [u8],
-    d: FlatDialect,
+    d: Dialect,
     value_type: u8,
     keyspace: u64,
     key: &[u8],
     value: &[u8],
 ) -> FlatCount
-    ensures { λ r. ⌜ (r ≡ typedCount «value_type» (encoded (dialectOf d) (body (item (codeOf (dialectOf d) (typeOf «value_type»)) keyspace (now (key .entry)) (now (value .entry)))) (now (buf .entry)))) × (now (buf .exit) ≡ typedBytes «value_type» (now (buf .entry)) (encoded (dialectOf d) (body (item (codeOf (dialectOf d) (typeOf «value_type»)) keyspace (now (key .entry)) (now (value .entry)))) (now (buf .entry)) .buffer)) ⌝ }
+    ensures { λ r. ⌜ (r ≡ typedCount «value_type» (encoded d (body (item (codeOf d (typeOf «value_type»)) keyspace (now (key .entry)) (now (value .entry)))) (now (buf .entry)))) × (now (buf .exit) ≡ typedBytes «value_type» (now (buf .entry)) (encoded d (body (item (codeOf d (typeOf «value_type»)) keyspace (now (key .entry)) (now (value .entry)))) (now (buf .entry)) .buffer)) ⌝ }
 {
-    if 3 < value_type {
-        return FlatCount {
-            number: 32,
-            bytes: 0,
-        };
+    if !is_type(value_type) {
+        return refused_count(32);
     }
     let kind = type_of(value_type);
-    flat_written(encode::encode_item(buf, dialect_of(d), kind, keyspace, key, value))
+    flat_written(encode::encode_item(buf, d, kind, keyspace, key, value))
 }
 
 #[no_mangle]
-pub extern "C" fn pierloft_encode_end(buf: &mut [u8], d: FlatDialect, checksum: u64) -> FlatCount
-    ensures { λ r. ⌜ (r ≡ flatWritten (encoded (dialectOf d) (end checksum) (now (buf .entry)) .answer)) × (now (buf .exit) ≡ encoded (dialectOf d) (end checksum) (now (buf .entry)) .buffer) ⌝ }
+pub extern "C" fn pierloft_encode_end(buf: &mut [u8], d: Dialect, checksum: u64) -> FlatCount
+    ensures { λ r. ⌜ (r ≡ flatWritten (encoded d (end checksum) (now (buf .entry)) .answer)) × (now (buf .exit) ≡ encoded d (end checksum) (now (buf .entry)) .buffer) ⌝ }
 {
-    flat_written(encode::encode_end(buf, dialect_of(d), checksum))
+    flat_written(encode::encode_end(buf, d, checksum))
 }
 
 #[no_mangle]
-pub extern "C" fn pierloft_encode_clear(buf: &mut [u8], d: FlatDialect, keyspace: u64) -> FlatCount
-    ensures { λ r. ⌜ (r ≡ flatWritten (encoded (dialectOf d) (body (clear keyspace)) (now (buf .entry)) .answer)) × (now (buf .exit) ≡ encoded (dialectOf d) (body (clear keyspace)) (now (buf .entry)) .buffer) ⌝ }
+pub extern "C" fn pierloft_encode_clear(buf: &mut [u8], d: Dialect, keyspace: u64) -> FlatCount
+    ensures { λ r. ⌜ (r ≡ flatWritten (encoded d (body (clear keyspace)) (now (buf .entry)) .answer)) × (now (buf .exit) ≡ encoded d (body (clear keyspace)) (now (buf .entry)) .buffer) ⌝ }
 {
-    flat_written(encode::encode_clear(buf, dialect_of(d), keyspace))
+    flat_written(encode::encode_clear(buf, d, keyspace))
 }
 
 // ---- the writer
 
-fn writer_of(flat: FlatWriter) -> WriterState
-    ensures { λ r. ⌜ r ≡ writerOf flat ⌝ }
-{
-    WriterState {
-        position: flat.position,
-        start: flat.start,
-        open: flat.open != 0,
-        left: flat.left,
-    }
-}
-
-fn flat_writer(s: WriterState) -> FlatWriter
-    ensures { λ r. ⌜ r ≡ flatWriter s ⌝ }
-{
-    FlatWriter {
-        position: s.position,
-        start: s.start,
-        open: flag(s.open),
-        left: s.left,
-    }
-}
-
-fn flat_reply(came: FlatWriter, r: Reply) -> FlatReply
-    ensures { λ x. ⌜ x ≡ flatReply came r ⌝ }
-{
-    let answer = r.answer;
-    let state = r.state;
-    match answer {
-        encode::Answer::Wrote(bytes) => FlatReply {
-            number: 0,
-            bytes,
-            writer: flat_writer(state),
-        },
-        encode::Answer::Refused(number) => FlatReply {
-            number,
-            bytes: 0,
-            writer: came,
-        },
-    }
-}
-
 #[no_mangle]
 pub extern "C" fn pierloft_open(
     buf: &mut [u8],
-    d: FlatDialect,
+    d: Dialect,
     writer: FlatWriter,
     count: u64,
     seqno: u64,
 ) -> FlatReply
-    ensures { λ r. ⌜ (r ≡ flatReply writer (openCall (dialectOf d) (now (buf .entry)) (writerOf writer) count seqno .reply)) × (now (buf .exit) ≡ openCall (dialectOf d) (now (buf .entry)) (writerOf writer) count seqno .bytes) ⌝ }
+    ensures { λ r. ⌜ (r ≡ flatReply writer (openCall d (now (buf .entry)) (writerOf writer) count seqno .reply)) × (now (buf .exit) ≡ openCall d (now (buf .entry)) (writerOf writer) count seqno .bytes) ⌝ }
 {
     flat_reply(
         writer,
-        writer::open(buf, dialect_of(d), writer_of(writer), count, seqno),
+        writer::open(buf, d, writer_of(writer), count, seqno),
     )
 }
 
 #[no_mangle]
 pub extern "C" fn pierloft_put_item(
     buf: &mut [u8],
-    d: FlatDialect,
+    d: Dialect,
     writer: FlatWriter,
     value_type: u8,
     keyspace: u64,
     key: &[u8],
     value: &[u8],
 ) -> FlatReply
-    ensures { λ r. ⌜ (r ≡ typedReply «value_type» writer (putCall (dialectOf d) (now (buf .entry)) (writerOf writer) (item (codeOf (dialectOf d) (typeOf «value_type»)) keyspace (now (key .entry)) (now (value .entry))))) × (now (buf .exit) ≡ typedBytes «value_type» (now (buf .entry)) (putCall (dialectOf d) (now (buf .entry)) (writerOf writer) (item (codeOf (dialectOf d) (typeOf «value_type»)) keyspace (now (key .entry)) (now (value .entry))) .bytes)) ⌝ }
+    ensures { λ r. ⌜ (r ≡ typedReply «value_type» writer (putCall d (now (buf .entry)) (writerOf writer) (item (codeOf d (typeOf «value_type»)) keyspace (now (key .entry)) (now (value .entry))))) × (now (buf .exit) ≡ typedBytes «value_type» (now (buf .entry)) (putCall d (now (buf .entry)) (writerOf writer) (item (codeOf d (typeOf «value_type»)) keyspace (now (key .entry)) (now (value .entry))) .bytes)) ⌝ }
 {
-    if 3 < value_type {
-        return FlatReply {
-            number: 32,
-            bytes: 0,
-            writer,
-        };
+    if !is_type(value_type) {
+        return refused_reply(writer, 32);
     }
     let kind = type_of(value_type);
     flat_reply(
         writer,
-        writer::put_item(
-            buf,
-            dialect_of(d),
-            writer_of(writer),
-            kind,
-            keyspace,
-            key,
-            value,
-        ),
+        writer::put_item(buf, d, writer_of(writer), kind, keyspace, key, value),
     )
 }
 
 #[no_mangle]
 pub extern "C" fn pierloft_put_clear(
     buf: &mut [u8],
-    d: FlatDialect,
+    d: Dialect,
     writer: FlatWriter,
     keyspace: u64,
 ) -> FlatReply
-    ensures { λ r. ⌜ (r ≡ flatReply writer (putCall (dialectOf d) (now (buf .entry)) (writerOf writer) (clear keyspace) .reply)) × (now (buf .exit) ≡ putCall (dialectOf d) (now (buf .entry)) (writerOf writer) (clear keyspace) .bytes) ⌝ }
+    ensures { λ r. ⌜ (r ≡ flatReply writer (putCall d (now (buf .entry)) (writerOf writer) (clear keyspace) .reply)) × (now (buf .exit) ≡ putCall d (now (buf .entry)) (writerOf writer) (clear keyspace) .bytes) ⌝ }
 {
     flat_reply(
         writer,
-        writer::put_clear(buf, dialect_of(d), writer_of(writer), keyspace),
+        writer::put_clear(buf, d, writer_of(writer), keyspace),
     )
 }
 
 #[no_mangle]
-pub extern "C" fn pierloft_close(buf: &mut [u8], d: FlatDialect, writer: FlatWriter) -> FlatReply
-    ensures { λ r. ⌜ (r ≡ flatReply writer (closeCall (dialectOf d) (now (buf .entry)) (writerOf writer) .reply)) × (now (buf .exit) ≡ closeCall (dialectOf d) (now (buf .entry)) (writerOf writer) .bytes) ⌝ }
+pub extern "C" fn pierloft_close(buf: &mut [u8], d: Dialect, writer: FlatWriter) -> FlatReply
+    ensures { λ r. ⌜ (r ≡ flatReply writer (closeCall d (now (buf .entry)) (writerOf writer) .reply)) × (now (buf .exit) ≡ closeCall d (now (buf .entry)) (writerOf writer) .bytes) ⌝ }
 {
-    flat_reply(writer, writer::close(buf, dialect_of(d), writer_of(writer)))
+    flat_reply(writer, writer::close(buf, d, writer_of(writer)))
 }
 
 #[no_mangle]
 pub extern "C" fn pierloft_write_raw(
     buf: &mut [u8],
-    d: FlatDialect,
+    d: Dialect,
     writer: FlatWriter,
     seqno: u64,
     value_type: u8,
@@ -751,43 +271,30 @@ pub extern "C" fn pierloft_write_raw(
     key: &[u8],
     value: &[u8],
 ) -> FlatReply
-    ensures { λ r. ⌜ (r ≡ typedReply «value_type» writer (writeCall (dialectOf d) (now (buf .entry)) (writerOf writer) seqno (item (codeOf (dialectOf d) (typeOf «value_type»)) keyspace (now (key .entry)) (now (value .entry))))) × (now (buf .exit) ≡ typedBytes «value_type» (now (buf .entry)) (writeCall (dialectOf d) (now (buf .entry)) (writerOf writer) seqno (item (codeOf (dialectOf d) (typeOf «value_type»)) keyspace (now (key .entry)) (now (value .entry))) .bytes)) ⌝ }
+    ensures { λ r. ⌜ (r ≡ typedReply «value_type» writer (writeCall d (now (buf .entry)) (writerOf writer) seqno (item (codeOf d (typeOf «value_type»)) keyspace (now (key .entry)) (now (value .entry))))) × (now (buf .exit) ≡ typedBytes «value_type» (now (buf .entry)) (writeCall d (now (buf .entry)) (writerOf writer) seqno (item (codeOf d (typeOf «value_type»)) keyspace (now (key .entry)) (now (value .entry))) .bytes)) ⌝ }
 {
-    if 3 < value_type {
-        return FlatReply {
-            number: 32,
-            bytes: 0,
-            writer,
-        };
+    if !is_type(value_type) {
+        return refused_reply(writer, 32);
     }
     let kind = type_of(value_type);
     flat_reply(
         writer,
-        one_entry::write_raw(
-            buf,
-            dialect_of(d),
-            writer_of(writer),
-            seqno,
-            kind,
-            keyspace,
-            key,
-            value,
-        ),
+        one_entry::write_raw(buf, d, writer_of(writer), seqno, kind, keyspace, key, value),
     )
 }
 
 #[no_mangle]
 pub extern "C" fn pierloft_write_clear(
     buf: &mut [u8],
-    d: FlatDialect,
+    d: Dialect,
     writer: FlatWriter,
     seqno: u64,
     keyspace: u64,
 ) -> FlatReply
-    ensures { λ r. ⌜ (r ≡ flatReply writer (writeCall (dialectOf d) (now (buf .entry)) (writerOf writer) seqno (clear keyspace) .reply)) × (now (buf .exit) ≡ writeCall (dialectOf d) (now (buf .entry)) (writerOf writer) seqno (clear keyspace) .bytes) ⌝ }
+    ensures { λ r. ⌜ (r ≡ flatReply writer (writeCall d (now (buf .entry)) (writerOf writer) seqno (clear keyspace) .reply)) × (now (buf .exit) ≡ writeCall d (now (buf .entry)) (writerOf writer) seqno (clear keyspace) .bytes) ⌝ }
 {
     flat_reply(
         writer,
-        one_entry::write_clear(buf, dialect_of(d), writer_of(writer), seqno, keyspace),
+        one_entry::write_clear(buf, d, writer_of(writer), seqno, keyspace),
     )
 }

@@ -1,4 +1,4 @@
-use crate::ffi::{self, FlatDialect};
+use crate::ffi;
 use crate::Refusal;
 use std::fmt;
 
@@ -16,12 +16,12 @@ use std::fmt;
 /// # Ok::<(), Refusal>(())
 /// ```
 #[derive(Clone, Copy, PartialEq, Eq, Hash)]
-pub struct Dialect(pub(crate) FlatDialect);
+pub struct Dialect(pub(crate) ffi::Dialect);
 
 impl Dialect {
     /// fjall 3.1.13's. Its magic is read off fjall's source; the codes of the types and of no compression are our best knowledge of
     /// lsm_tree 3 and not confirmed (docs/DECISIONS.md).
-    pub const SHIPPED: Dialect = Dialect(FlatDialect {
+    pub const SHIPPED: Dialect = Dialect(ffi::Dialect {
         magic: [0x46, 0x4a, 0x4c, 0x03, 0, 0, 0, 0],
         length: 4,
         value: 0,
@@ -32,7 +32,7 @@ impl Dialect {
     });
 
     /// Document 01's: magic 4A 4C 31 01, codes 0, 1, 2, 3, compression 0.
-    pub const TEST: Dialect = Dialect(FlatDialect {
+    pub const TEST: Dialect = Dialect(ffi::Dialect {
         magic: [0x4a, 0x4c, 0x31, 0x01, 0, 0, 0, 0],
         length: 4,
         value: 0,
@@ -53,7 +53,7 @@ impl Dialect {
         let mut array = [0; 8];
         array[..used].copy_from_slice(&magic[..used]);
         let [value, tombstone, weak, indirection] = types;
-        let flat = FlatDialect {
+        let flat = ffi::Dialect {
             magic: array,
             length: magic.len(),
             value,
@@ -128,5 +128,16 @@ impl fmt::Display for ValueType {
             ValueType::WeakTombstone => "W",
             ValueType::Indirection => "Vb",
         })
+    }
+}
+
+#[cfg(test)]
+mod tests {
+    use super::*;
+
+    #[test]
+    fn constants_are_the_librarys() {
+        assert_eq!(Dialect::SHIPPED.0, ffi::shipped());
+        assert_eq!(Dialect::TEST.0, ffi::test());
     }
 }

@@ -1,15 +1,16 @@
-//! The static library's functions, made safe. All of this crate's `unsafe` is here.
+//! The static library's functions, made safe. All of this crate's `unsafe` is here. tests/oracle and bench/xxh3 take this file in too, so that
+//! the declarations stand once: it has every function of the library, those among them that this crate doesn't call.
 //!
 //! Why each call is sound. The functions are proved, for every argument, to do nothing undefined, to return, and to write nothing but the
 //! buffer or state that is lent `&mut`; they keep no pointer, allocate nothing and call nothing outside. So a call needs no more than what
 //! Rust's own references give: a pointer and a length that belong together (both come from one slice, never null), and a buffer lent
 //! `&mut` that nothing else lies in. What the proofs don't cover is that the declarations below are the library's: the structs and the
 //! functions' types are held to its source by the tests at the end of this file, their answers by the tests of this crate.
-#![allow(unsafe_code)]
+#![allow(unsafe_code, dead_code)]
 
 #[repr(C)]
 #[derive(Clone, Copy, Debug, PartialEq, Eq, Hash)]
-pub struct FlatDialect {
+pub struct Dialect {
     pub magic: [u8; 8],
     pub length: usize,
     pub value: u8,
@@ -20,6 +21,7 @@ pub struct FlatDialect {
 }
 
 #[repr(C)]
+#[derive(Clone, Copy, Debug, PartialEq, Eq)]
 pub struct FlatEntry {
     pub number: u32,
     pub tag: u8,
@@ -44,6 +46,7 @@ pub struct FlatReader {
 }
 
 #[repr(C)]
+#[derive(Clone, Copy, Debug, PartialEq, Eq)]
 pub struct FlatStepped {
     pub number: u32,
     pub accepted: u32,
@@ -57,12 +60,22 @@ pub struct FlatStepped {
 }
 
 #[repr(C)]
+#[derive(Clone, Copy, Debug, PartialEq, Eq)]
 pub struct FlatCount {
     pub number: u32,
     pub bytes: usize,
 }
 
 #[repr(C)]
+#[derive(Clone, Copy, Debug, PartialEq, Eq)]
+pub struct FlatSpan {
+    pub number: u32,
+    pub at: usize,
+    pub length: usize,
+}
+
+#[repr(C)]
+#[derive(Clone, Copy, Debug, PartialEq, Eq)]
 pub struct FlatHash {
     pub number: u32,
     pub hash: u64,
@@ -70,10 +83,17 @@ pub struct FlatHash {
 
 #[repr(C)]
 #[derive(Clone, Copy, Debug, PartialEq, Eq)]
-pub struct FlatHasher {
+pub struct Hasher {
     pub acc: [u64; 8],
     pub hold: [u8; 256],
     pub total: u64,
+}
+
+#[repr(C)]
+#[derive(Clone, Copy, Debug, PartialEq, Eq)]
+pub struct Absorbed {
+    pub number: u32,
+    pub state: Hasher,
 }
 
 #[repr(C)]
@@ -86,6 +106,7 @@ pub struct FlatWriter {
 }
 
 #[repr(C)]
+#[derive(Clone, Copy, Debug, PartialEq, Eq)]
 pub struct FlatReply {
     pub number: u32,
     pub bytes: usize,
@@ -96,36 +117,78 @@ mod c {
     use super::*;
 
     extern "C" {
-        #[cfg(test)]
-        pub fn pierloft_shipped() -> FlatDialect;
-        #[cfg(test)]
-        pub fn pierloft_test() -> FlatDialect;
-        pub fn pierloft_check(d: FlatDialect) -> u32;
+        pub fn pierloft_shipped() -> Dialect;
+        pub fn pierloft_test() -> Dialect;
+        pub fn pierloft_check(d: Dialect) -> u32;
         pub fn pierloft_decode(
             image: *const u8,
             image_length: usize,
             at: usize,
-            d: FlatDialect,
+            d: Dialect,
         ) -> FlatEntry;
         pub fn pierloft_step(
             image: *const u8,
             image_length: usize,
             reader: FlatReader,
-            d: FlatDialect,
+            d: Dialect,
         ) -> FlatStepped;
         pub fn pierloft_kept(length: usize, reader: FlatReader) -> FlatCount;
+        pub fn pierloft_key(
+            image: *const u8,
+            image_length: usize,
+            at: usize,
+            d: Dialect,
+        ) -> FlatSpan;
+        pub fn pierloft_value(
+            image: *const u8,
+            image_length: usize,
+            at: usize,
+            d: Dialect,
+        ) -> FlatSpan;
+        pub fn pierloft_body(length: usize, from: usize, to: usize) -> FlatSpan;
         pub fn pierloft_xxh3_64(bytes: *const u8, bytes_length: usize) -> FlatHash;
-        pub fn pierloft_hasher_new() -> FlatHasher;
+        pub fn pierloft_hasher_new() -> Hasher;
+        pub fn pierloft_absorb(state: Hasher, piece: *const u8, piece_length: usize) -> Absorbed;
         pub fn pierloft_absorb_into(
-            state: *mut FlatHasher,
+            state: *mut Hasher,
             piece: *const u8,
             piece_length: usize,
         ) -> u32;
-        pub fn pierloft_finish(state: FlatHasher) -> FlatHash;
+        pub fn pierloft_finish(state: Hasher) -> FlatHash;
+        pub fn pierloft_encode_start(
+            buf: *mut u8,
+            buf_length: usize,
+            d: Dialect,
+            count: u32,
+            seqno: u64,
+        ) -> FlatCount;
+        pub fn pierloft_encode_item(
+            buf: *mut u8,
+            buf_length: usize,
+            d: Dialect,
+            value_type: u8,
+            keyspace: u64,
+            key: *const u8,
+            key_length: usize,
+            value: *const u8,
+            value_length: usize,
+        ) -> FlatCount;
+        pub fn pierloft_encode_end(
+            buf: *mut u8,
+            buf_length: usize,
+            d: Dialect,
+            checksum: u64,
+        ) -> FlatCount;
+        pub fn pierloft_encode_clear(
+            buf: *mut u8,
+            buf_length: usize,
+            d: Dialect,
+            keyspace: u64,
+        ) -> FlatCount;
         pub fn pierloft_open(
             buf: *mut u8,
             buf_length: usize,
-            d: FlatDialect,
+            d: Dialect,
             writer: FlatWriter,
             count: u64,
             seqno: u64,
@@ -133,7 +196,7 @@ mod c {
         pub fn pierloft_put_item(
             buf: *mut u8,
             buf_length: usize,
-            d: FlatDialect,
+            d: Dialect,
             writer: FlatWriter,
             value_type: u8,
             keyspace: u64,
@@ -145,20 +208,20 @@ mod c {
         pub fn pierloft_put_clear(
             buf: *mut u8,
             buf_length: usize,
-            d: FlatDialect,
+            d: Dialect,
             writer: FlatWriter,
             keyspace: u64,
         ) -> FlatReply;
         pub fn pierloft_close(
             buf: *mut u8,
             buf_length: usize,
-            d: FlatDialect,
+            d: Dialect,
             writer: FlatWriter,
         ) -> FlatReply;
         pub fn pierloft_write_raw(
             buf: *mut u8,
             buf_length: usize,
-            d: FlatDialect,
+            d: Dialect,
             writer: FlatWriter,
             seqno: u64,
             value_type: u8,
@@ -171,7 +234,7 @@ mod c {
         pub fn pierloft_write_clear(
             buf: *mut u8,
             buf_length: usize,
-            d: FlatDialect,
+            d: Dialect,
             writer: FlatWriter,
             seqno: u64,
             keyspace: u64,
@@ -180,17 +243,27 @@ mod c {
 }
 
 #[inline]
-pub fn check(dialect: FlatDialect) -> u32 {
+pub fn shipped() -> Dialect {
+    unsafe { c::pierloft_shipped() }
+}
+
+#[inline]
+pub fn test() -> Dialect {
+    unsafe { c::pierloft_test() }
+}
+
+#[inline]
+pub fn check(dialect: Dialect) -> u32 {
     unsafe { c::pierloft_check(dialect) }
 }
 
 #[inline]
-pub fn decode(image: &[u8], at: usize, dialect: FlatDialect) -> FlatEntry {
+pub fn decode(image: &[u8], at: usize, dialect: Dialect) -> FlatEntry {
     unsafe { c::pierloft_decode(image.as_ptr(), image.len(), at, dialect) }
 }
 
 #[inline]
-pub fn step(image: &[u8], reader: FlatReader, dialect: FlatDialect) -> FlatStepped {
+pub fn step(image: &[u8], reader: FlatReader, dialect: Dialect) -> FlatStepped {
     unsafe { c::pierloft_step(image.as_ptr(), image.len(), reader, dialect) }
 }
 
@@ -200,38 +273,90 @@ pub fn kept(length: usize, reader: FlatReader) -> FlatCount {
 }
 
 #[inline]
+pub fn key(image: &[u8], at: usize, dialect: Dialect) -> FlatSpan {
+    unsafe { c::pierloft_key(image.as_ptr(), image.len(), at, dialect) }
+}
+
+#[inline]
+pub fn value(image: &[u8], at: usize, dialect: Dialect) -> FlatSpan {
+    unsafe { c::pierloft_value(image.as_ptr(), image.len(), at, dialect) }
+}
+
+#[inline]
+pub fn body(length: usize, from: usize, to: usize) -> FlatSpan {
+    unsafe { c::pierloft_body(length, from, to) }
+}
+
+#[inline]
 pub fn xxh3_64(bytes: &[u8]) -> FlatHash {
     unsafe { c::pierloft_xxh3_64(bytes.as_ptr(), bytes.len()) }
 }
 
 #[inline]
-pub fn hasher_new() -> FlatHasher {
+pub fn hasher_new() -> Hasher {
     unsafe { c::pierloft_hasher_new() }
 }
 
 #[inline]
-pub fn absorb_into(state: &mut FlatHasher, piece: &[u8]) -> u32 {
+pub fn absorb(state: Hasher, piece: &[u8]) -> Absorbed {
+    unsafe { c::pierloft_absorb(state, piece.as_ptr(), piece.len()) }
+}
+
+#[inline]
+pub fn absorb_into(state: &mut Hasher, piece: &[u8]) -> u32 {
     unsafe { c::pierloft_absorb_into(state, piece.as_ptr(), piece.len()) }
 }
 
 #[inline]
-pub fn finish(state: FlatHasher) -> FlatHash {
+pub fn finish(state: Hasher) -> FlatHash {
     unsafe { c::pierloft_finish(state) }
 }
 
-/// Where a writer writes: its buffer, its dialect and its state.
-pub struct Place<'a> {
-    pub buf: &'a mut [u8],
-    pub dialect: FlatDialect,
-    pub writer: FlatWriter,
-}
-
-/// An item's four parts. The type is 0 to 3.
+/// An item's four parts. The type is 0 to 3; any other is refused.
 pub struct FlatItem<'a> {
     pub value_type: u8,
     pub keyspace: u64,
     pub key: &'a [u8],
     pub value: &'a [u8],
+}
+
+#[inline]
+pub fn encode_start(buf: &mut [u8], dialect: Dialect, count: u32, seqno: u64) -> FlatCount {
+    unsafe { c::pierloft_encode_start(buf.as_mut_ptr(), buf.len(), dialect, count, seqno) }
+}
+
+#[inline]
+pub fn encode_item(buf: &mut [u8], dialect: Dialect, item: FlatItem<'_>) -> FlatCount {
+    unsafe {
+        c::pierloft_encode_item(
+            buf.as_mut_ptr(),
+            buf.len(),
+            dialect,
+            item.value_type,
+            item.keyspace,
+            item.key.as_ptr(),
+            item.key.len(),
+            item.value.as_ptr(),
+            item.value.len(),
+        )
+    }
+}
+
+#[inline]
+pub fn encode_end(buf: &mut [u8], dialect: Dialect, checksum: u64) -> FlatCount {
+    unsafe { c::pierloft_encode_end(buf.as_mut_ptr(), buf.len(), dialect, checksum) }
+}
+
+#[inline]
+pub fn encode_clear(buf: &mut [u8], dialect: Dialect, keyspace: u64) -> FlatCount {
+    unsafe { c::pierloft_encode_clear(buf.as_mut_ptr(), buf.len(), dialect, keyspace) }
+}
+
+/// Where a writer writes: its buffer, its dialect and its state.
+pub struct Place<'a> {
+    pub buf: &'a mut [u8],
+    pub dialect: Dialect,
+    pub writer: FlatWriter,
 }
 
 #[inline]
@@ -303,6 +428,12 @@ mod tests {
 
     const HERE: &str = include_str!("ffi.rs");
     const LIBRARY: &str = include_str!("../../../crates/pierloft/src/lib.rt");
+    /// The crates whose structs cross.
+    const DECLARING: [&str; 3] = [
+        include_str!("../../../crates/dialect/src/lib.rt"),
+        include_str!("../../../crates/stream/src/lib.rt"),
+        include_str!("../../../crates/flat/src/lib.rt"),
+    ];
 
     /// The fields of each `#[repr(C)]` struct, as they stand in the text.
     fn structs(text: &str) -> Vec<(&str, &str)> {
@@ -316,7 +447,19 @@ mod tests {
             .collect()
     }
 
-    /// A function's name, the types of its arguments and of its answer, slices written as a pointer and a length.
+    /// A type as it crosses: a slice as a pointer and a length, any other reference as a pointer.
+    fn crossing(of: &str) -> Vec<String> {
+        match of {
+            "&[u8]" => vec!["*const u8".into(), "usize".into()],
+            "&mut [u8]" => vec!["*mut u8".into(), "usize".into()],
+            of => match of.strip_prefix("&mut ") {
+                Some(to) => vec![format!("*mut {to}")],
+                None => vec![of.replacen('&', "*const ", 1)],
+            },
+        }
+    }
+
+    /// A function's name, the types of its arguments and of its answer, as they cross.
     fn signature(text: &str) -> (String, Vec<String>, String) {
         let text = text.split_whitespace().collect::<Vec<_>>().join(" ");
         let (name, rest) = text.split_once('(').expect("arguments");
@@ -326,31 +469,24 @@ mod tests {
             .filter(|argument| !argument.is_empty())
             .flat_map(|argument| {
                 let of = argument.split_once(": ").expect("a type").1;
-                match of.trim_end_matches(',') {
-                    "&[u8]" => vec!["*const u8", "usize"],
-                    "&mut [u8]" => vec!["*mut u8", "usize"],
-                    "&mut FlatHasher" => vec!["*mut FlatHasher"],
-                    other => vec![other],
-                }
+                crossing(of.trim_end_matches(','))
             })
-            .map(String::from)
             .collect();
         (name.into(), types, answer.into())
     }
 
     #[test]
     fn structs_are_the_librarys() {
-        let theirs = structs(LIBRARY);
-        let ours = structs(HERE);
-        assert_eq!(ours.len(), 9);
-        for ours in ours {
-            assert!(theirs.contains(&ours), "{} is not the library's", ours.0);
-        }
+        let mut theirs: Vec<_> = DECLARING.into_iter().flat_map(structs).collect();
+        let mut ours = structs(HERE);
+        theirs.sort_unstable();
+        ours.sort_unstable();
+        assert_eq!(ours, theirs);
     }
 
     #[test]
     fn functions_are_the_librarys() {
-        let theirs: Vec<_> = LIBRARY
+        let mut theirs: Vec<_> = LIBRARY
             .split("\npub extern \"C\" fn ")
             .skip(1)
             .map(|rest| signature(rest.split("\n    ensures").next().expect("a contract")))
@@ -359,33 +495,24 @@ mod tests {
             .split("extern \"C\" {\n")
             .nth(1)
             .expect("the declarations");
-        let ours: Vec<_> = block
+        let mut ours: Vec<_> = block
             .split("\n    }\n")
             .next()
             .expect("their end")
             .split("pub fn ")
             .skip(1)
-            .map(|rest| signature(rest.split(';').next().expect("its end")))
+            .map(|rest| signature(rest.rsplit_once(';').expect("its end").0))
             .collect();
-        assert_eq!(ours.len(), 16);
-        for ours in ours {
-            assert!(theirs.contains(&ours), "{ours:?} is not the library's");
-        }
-    }
-
-    /// The constants of Rust are the library's own.
-    #[test]
-    fn dialects_are_the_librarys() {
-        let (shipped, test) = unsafe { (c::pierloft_shipped(), c::pierloft_test()) };
-        assert_eq!(crate::Dialect::SHIPPED.0, shipped);
-        assert_eq!(crate::Dialect::TEST.0, test);
+        theirs.sort_unstable();
+        ours.sort_unstable();
+        assert_eq!(ours, theirs);
     }
 
     #[test]
     fn sizes_and_offsets() {
-        assert_eq!(size_of::<FlatDialect>(), 24);
-        assert_eq!(offset_of!(FlatDialect, length), 8);
-        assert_eq!(offset_of!(FlatDialect, none), 20);
+        assert_eq!(size_of::<Dialect>(), 24);
+        assert_eq!(offset_of!(Dialect, length), 8);
+        assert_eq!(offset_of!(Dialect, none), 20);
         assert_eq!(size_of::<FlatEntry>(), 80);
         assert_eq!(offset_of!(FlatEntry, value_type), 5);
         assert_eq!(offset_of!(FlatEntry, count), 8);
@@ -396,9 +523,12 @@ mod tests {
         assert_eq!(offset_of!(FlatStepped, seqno), 16);
         assert_eq!(offset_of!(FlatStepped, reader), 56);
         assert_eq!(size_of::<FlatCount>(), 16);
+        assert_eq!(size_of::<FlatSpan>(), 24);
         assert_eq!(size_of::<FlatHash>(), 16);
-        assert_eq!(size_of::<FlatHasher>(), 328);
-        assert_eq!(offset_of!(FlatHasher, total), 320);
+        assert_eq!(size_of::<Hasher>(), 328);
+        assert_eq!(offset_of!(Hasher, total), 320);
+        assert_eq!(size_of::<Absorbed>(), 336);
+        assert_eq!(offset_of!(Absorbed, state), 8);
         assert_eq!(size_of::<FlatWriter>(), 32);
         assert_eq!(offset_of!(FlatWriter, left), 24);
         assert_eq!(size_of::<FlatReply>(), 48);

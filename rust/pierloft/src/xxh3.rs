@@ -1,4 +1,4 @@
-use crate::ffi::{self, FlatHasher};
+use crate::ffi;
 use crate::Refusal;
 
 /// XXH3-64, seed 0 and the default secret, of at most 4,294,967,295 bytes.
@@ -28,7 +28,7 @@ pub fn xxh3_64(bytes: &[u8]) -> Result<u64, Refusal> {
 /// # Ok::<(), pierloft::Refusal>(())
 /// ```
 #[derive(Clone, Debug, PartialEq, Eq)]
-pub struct Xxh3(FlatHasher);
+pub struct Xxh3(ffi::Hasher);
 
 impl Xxh3 {
     /// The hash of no bytes yet.

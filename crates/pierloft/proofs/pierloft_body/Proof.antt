@@ -1,16 +1,11 @@
 use mathlib.Core.Path.{ap, _∙_}
 use Rattle.view.proofs.Laws.{body-within}
-use Rattle.pierloft.specs.Flat.{flatSpan}
-use borrow.Author.Needs.{needs}
+use Rattle.flat.specs.Flat.{flatSpan}
 use Rattle.pierloft.proofs.pierloft_body.Statement.{statement}
 use Rattle.pierloft.proofs.pierloft_body.Tie as tie
-use Rattle.pierloft.proofs.pierloft_body.Reads as reads
-use Rattle.pierloft.proofs.pierloft_body.Lts as lts
-use Rattle.pierloft.proofs.span.Reads as span-reads
-use Rattle.view.proofs.body_span.Reads as body-span-reads
 
 body-span-requires : tie.Need-body-span-requires
-body-span-requires c κs = search needs
+body-span-requires c κs = tt
 
 span-requires : tie.Need-span-requires
 span-requires c κs = body-within _ _ _ _ (c .body-span .ensures) .from

@@ -1,18 +1,17 @@
-use borrow.Author.Needs.{needs}
 use Rattle.pierloft.proofs.pierloft_kept.Statement.{statement}
 use Rattle.pierloft.proofs.pierloft_kept.Tie as tie
 
 reader-of-requires : tie.Need-reader-of-requires
-reader-of-requires c κs = search needs
+reader-of-requires c κs = tt
 
 kept-requires : tie.Need-kept-requires
-kept-requires c κs = search needs
+kept-requires c κs = tt
 
 flat-keep-requires : tie.Need-flat-keep-requires
-flat-keep-requires c κs = search needs
+flat-keep-requires c κs = tt
 
 returns : tie.Need-returns
-returns c = cc
+returns c = rw (c .flat-keep .ensures, c .before .kept .ensures, c .before .before .reader-of .ensures)
 
 pub pierloft-kept-spec : {M : Type 1} → statement M
 pierloft-kept-spec =

@@ -1,37 +1,22 @@
 use mathlib.Core.Path.{ap, _∙_}
-use Rattle.dialect.specs.declared.Dialect.{Dialect}
-use Rattle.entry.specs.Decoded.{decoded}
 use Rattle.view.specs.View.{pairOf}
 use Rattle.view.proofs.Laws.{pair-within}
-use Rattle.pierloft.specs.Flat.{keySpan}
-use borrow.Author.Needs.{needs}
+use Rattle.flat.specs.Flat.{keySpan}
 use Rattle.pierloft.proofs.pierloft_key.Statement.{statement}
 use Rattle.pierloft.proofs.pierloft_key.Tie as tie
-use Rattle.pierloft.proofs.pierloft_key.Reads as reads
-use Rattle.pierloft.proofs.pierloft_key.Lts as lts
-use Rattle.entry.proofs.decode.Reads as decode-reads
-use Rattle.pierloft.proofs.dialect_of.Reads as dialect-of-reads
-use Rattle.pierloft.proofs.span.Reads as span-reads
-use Rattle.view.proofs.pair_of.Reads as pair-of-reads
-
-dialect-of-requires : tie.Need-dialect-of-requires
-dialect-of-requires c κs = search needs
 
 decode-requires : tie.Need-decode-requires
-decode-requires c κs = search needs
+decode-requires c κs = tt
 
 pair-of-requires : tie.Need-pair-of-requires
-pair-of-requires c κs = search needs
+pair-of-requires c κs = tt
 
 span-requires : tie.Need-span-requires
 span-requires c κs = pair-within _ _ _ _ (c .pair-of .ensures ∙ ap pairOf (c .before .decode .ensures .0)) .key
 
 returns : tie.Need-returns
-returns c =
-    let a = c .before .before .before .before .before .args in
-    let e = c .before .before .decode .ensures .0 ∙ ap (λ (d : Dialect). decoded d (a .image .now) (a .at)) (c .before .before .before .dialect-of .ensures) in
-    c .span .ensures ∙ ap keySpan (c .before .pair-of .ensures ∙ ap pairOf e)
+returns c = c .span .ensures ∙ ap keySpan (c .before .pair-of .ensures ∙ ap pairOf (c .before .before .decode .ensures .0))
 
 pub pierloft-key-spec : {M : Type 1} → statement M
 pierloft-key-spec =
-    tie.close (tie.spec dialect-of-requires decode-requires pair-of-requires span-requires returns)
+    tie.close (tie.spec decode-requires pair-of-requires span-requires returns)

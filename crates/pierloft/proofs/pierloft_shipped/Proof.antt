@@ -1,15 +1,11 @@
-use borrow.Author.Needs.{needs}
 use Rattle.pierloft.proofs.pierloft_shipped.Statement.{statement}
 use Rattle.pierloft.proofs.pierloft_shipped.Tie as tie
 
 shipped-requires : tie.Need-shipped-requires
-shipped-requires c κs = search needs
-
-flat-dialect-requires : tie.Need-flat-dialect-requires
-flat-dialect-requires c κs = search needs
+shipped-requires c κs = tt
 
 returns : tie.Need-returns
-returns c = cc
+returns c = c .shipped .ensures
 
 pub pierloft-shipped-spec : {M : Type 1} → statement M
-pierloft-shipped-spec = tie.close (tie.spec shipped-requires flat-dialect-requires returns)
+pierloft-shipped-spec = tie.close (tie.spec shipped-requires returns)

@@ -1,218 +1,13 @@
-//! The static library, as include/pierloft.h declares it, asked in document 01's words.
+//! The static library, asked in document 01's words.
 use answers::{Batch, Call, Decoded, Dialect, Entry, Item, Judge, Reading, Written, KINDS};
 
-#[repr(C)]
-#[derive(Clone, Copy, Debug, PartialEq, Eq)]
-pub struct FlatDialect {
-    pub magic: [u8; 8],
-    pub length: usize,
-    pub value: u8,
-    pub tombstone: u8,
-    pub weak: u8,
-    pub indirection: u8,
-    pub none: u8,
-}
-
-#[repr(C)]
-#[derive(Clone, Copy, Debug, PartialEq, Eq)]
-pub struct FlatReader {
-    pub position: usize,
-    pub ended: u32,
-    pub outcome: u32,
-}
-
-#[repr(C)]
-#[derive(Clone, Copy, Debug, PartialEq, Eq)]
-pub struct FlatEntry {
-    pub number: u32,
-    pub tag: u8,
-    pub value_type: u8,
-    pub count: u64,
-    pub seqno: u64,
-    pub keyspace: u64,
-    pub checksum: u64,
-    pub key_at: usize,
-    pub key_len: usize,
-    pub value_at: usize,
-    pub value_len: usize,
-    pub next: usize,
-}
-
-#[repr(C)]
-#[derive(Clone, Copy, Debug, PartialEq, Eq)]
-pub struct FlatStepped {
-    pub number: u32,
-    pub accepted: u32,
-    pub outcome: u32,
-    pub seqno: u64,
-    pub count: u64,
-    pub body: usize,
-    pub end: usize,
-    pub next: usize,
-    pub reader: FlatReader,
-}
-
-#[repr(C)]
-#[derive(Clone, Copy, Debug, PartialEq, Eq)]
-pub struct FlatCount {
-    pub number: u32,
-    pub bytes: usize,
-}
-
-#[repr(C)]
-#[derive(Clone, Copy, Debug, PartialEq, Eq)]
-pub struct FlatSpan {
-    pub number: u32,
-    pub at: usize,
-    pub length: usize,
-}
-
-#[repr(C)]
-#[derive(Clone, Copy, Debug, PartialEq, Eq)]
-pub struct FlatHash {
-    pub number: u32,
-    pub hash: u64,
-}
-
-#[repr(C)]
-#[derive(Clone, Copy, Debug, PartialEq, Eq)]
-pub struct FlatHasher {
-    pub acc: [u64; 8],
-    pub hold: [u8; 256],
-    pub total: u64,
-}
-
-#[repr(C)]
-#[derive(Clone, Copy, Debug, PartialEq, Eq)]
-pub struct FlatAbsorbed {
-    pub number: u32,
-    pub state: FlatHasher,
-}
-
-#[repr(C)]
-#[derive(Clone, Copy, Debug, PartialEq, Eq)]
-pub struct FlatWriter {
-    pub position: usize,
-    pub start: usize,
-    pub open: u32,
-    pub left: u64,
-}
-
-#[repr(C)]
-#[derive(Clone, Copy, Debug, PartialEq, Eq)]
-pub struct FlatReply {
-    pub number: u32,
-    pub bytes: usize,
-    pub writer: FlatWriter,
-}
-
-mod c {
-    use super::{FlatAbsorbed, FlatCount, FlatDialect, FlatEntry, FlatHash, FlatHasher, FlatReader, FlatReply, FlatSpan, FlatStepped, FlatWriter};
-    type Dialect = FlatDialect;
-    type Writer = FlatWriter;
-
-    extern "C" {
-        pub fn pierloft_decode(image: *const u8, length: usize, at: usize, dialect: FlatDialect) -> FlatEntry;
-        pub fn pierloft_step(image: *const u8, length: usize, reader: FlatReader, dialect: FlatDialect) -> FlatStepped;
-        pub fn pierloft_kept(length: usize, reader: FlatReader) -> FlatCount;
-        pub fn pierloft_key(image: *const u8, length: usize, at: usize, dialect: Dialect) -> FlatSpan;
-        pub fn pierloft_value(image: *const u8, length: usize, at: usize, dialect: Dialect) -> FlatSpan;
-        pub fn pierloft_body(length: usize, body: usize, end: usize) -> FlatSpan;
-        pub fn pierloft_xxh3_64(bytes: *const u8, length: usize) -> FlatHash;
-        pub fn pierloft_hasher_new() -> FlatHasher;
-        pub fn pierloft_absorb(state: FlatHasher, piece: *const u8, length: usize) -> FlatAbsorbed;
-        pub fn pierloft_absorb_into(state: *mut FlatHasher, piece: *const u8, length: usize) -> u32;
-        pub fn pierloft_finish(state: FlatHasher) -> FlatHash;
-        pub fn pierloft_encode_start(buf: *mut u8, length: usize, d: Dialect, count: u32, seqno: u64) -> FlatCount;
-        pub fn pierloft_encode_item(
-            buf: *mut u8,
-            length: usize,
-            d: Dialect,
-            value_type: u8,
-            keyspace: u64,
-            key: *const u8,
-            key_len: usize,
-            value: *const u8,
-            value_len: usize,
-        ) -> FlatCount;
-        pub fn pierloft_encode_end(buf: *mut u8, length: usize, d: Dialect, checksum: u64) -> FlatCount;
-        pub fn pierloft_encode_clear(buf: *mut u8, length: usize, d: Dialect, keyspace: u64) -> FlatCount;
-        pub fn pierloft_open(buf: *mut u8, length: usize, d: Dialect, w: Writer, count: u64, seqno: u64) -> FlatReply;
-        pub fn pierloft_put_item(
-            buf: *mut u8,
-            length: usize,
-            d: Dialect,
-            w: Writer,
-            value_type: u8,
-            keyspace: u64,
-            key: *const u8,
-            key_len: usize,
-            value: *const u8,
-            value_len: usize,
-        ) -> FlatReply;
-        pub fn pierloft_put_clear(buf: *mut u8, length: usize, d: Dialect, w: Writer, keyspace: u64) -> FlatReply;
-        pub fn pierloft_close(buf: *mut u8, length: usize, d: Dialect, w: Writer) -> FlatReply;
-        pub fn pierloft_write_raw(
-            buf: *mut u8,
-            length: usize,
-            d: Dialect,
-            w: Writer,
-            seqno: u64,
-            value_type: u8,
-            keyspace: u64,
-            key: *const u8,
-            key_len: usize,
-            value: *const u8,
-            value_len: usize,
-        ) -> FlatReply;
-        pub fn pierloft_write_clear(buf: *mut u8, length: usize, d: Dialect, w: Writer, seqno: u64, keyspace: u64) -> FlatReply;
-    }
-}
-
-// The image is lent for the call, which writes nothing: every state, position and dialect is allowed.
-pub fn decode(image: &[u8], at: usize, dialect: FlatDialect) -> FlatEntry {
-    unsafe { c::pierloft_decode(image.as_ptr(), image.len(), at, dialect) }
-}
-
-pub fn step(image: &[u8], reader: FlatReader, dialect: FlatDialect) -> FlatStepped {
-    unsafe { c::pierloft_step(image.as_ptr(), image.len(), reader, dialect) }
-}
-
-pub fn kept(length: usize, reader: FlatReader) -> FlatCount {
-    unsafe { c::pierloft_kept(length, reader) }
-}
-
-pub fn key(image: &[u8], at: usize, dialect: FlatDialect) -> FlatSpan {
-    unsafe { c::pierloft_key(image.as_ptr(), image.len(), at, dialect) }
-}
-
-pub fn value(image: &[u8], at: usize, dialect: FlatDialect) -> FlatSpan {
-    unsafe { c::pierloft_value(image.as_ptr(), image.len(), at, dialect) }
-}
-
-pub fn body(length: usize, body: usize, end: usize) -> FlatSpan {
-    unsafe { c::pierloft_body(length, body, end) }
-}
-
-pub fn xxh3_64(bytes: &[u8]) -> FlatHash {
-    unsafe { c::pierloft_xxh3_64(bytes.as_ptr(), bytes.len()) }
-}
-
-pub fn hasher_new() -> FlatHasher {
-    unsafe { c::pierloft_hasher_new() }
-}
-
-pub fn absorb(state: FlatHasher, piece: &[u8]) -> FlatAbsorbed {
-    unsafe { c::pierloft_absorb(state, piece.as_ptr(), piece.len()) }
-}
-
-pub fn absorb_into(state: &mut FlatHasher, piece: &[u8]) -> u32 {
-    unsafe { c::pierloft_absorb_into(state, piece.as_ptr(), piece.len()) }
-}
-
-pub fn finish(state: FlatHasher) -> FlatHash {
-    unsafe { c::pierloft_finish(state) }
-}
+#[path = "../../../../rust/pierloft/src/ffi.rs"]
+mod ffi;
+use ffi::{FlatItem, Place};
+pub use ffi::{
+    absorb, absorb_into, body, decode, finish, hasher_new, kept, key, step, value, xxh3_64, Dialect as FlatDialect, FlatCount, FlatEntry,
+    FlatHash, FlatReader, FlatReply, FlatSpan, FlatStepped, FlatWriter, Hasher as FlatHasher,
+};
 
 /// An entry to encode, or to put.
 #[derive(Clone, Copy, Debug)]
@@ -230,22 +25,17 @@ pub enum Op<'a> {
     Write { seqno: u64, put: Put<'a> },
 }
 
-// The buffer is lent for the call alone; it overlaps neither the key nor the value, which Rust's rules see to.
-pub fn call(buf: &mut [u8], d: FlatDialect, w: FlatWriter, op: Op) -> FlatReply {
-    let (b, n) = (buf.as_mut_ptr(), buf.len());
-    unsafe {
-        match op {
-            Op::Open { count, seqno } => c::pierloft_open(b, n, d, w, count, seqno),
-            Op::Put(Put::Item { value_type, keyspace, key, value }) => {
-                c::pierloft_put_item(b, n, d, w, value_type, keyspace, key.as_ptr(), key.len(), value.as_ptr(), value.len())
-            }
-            Op::Put(Put::Clear { keyspace }) => c::pierloft_put_clear(b, n, d, w, keyspace),
-            Op::Close => c::pierloft_close(b, n, d, w),
-            Op::Write { seqno, put: Put::Item { value_type, keyspace, key, value } } => {
-                c::pierloft_write_raw(b, n, d, w, seqno, value_type, keyspace, key.as_ptr(), key.len(), value.as_ptr(), value.len())
-            }
-            Op::Write { seqno, put: Put::Clear { keyspace } } => c::pierloft_write_clear(b, n, d, w, seqno, keyspace),
+pub fn call(buf: &mut [u8], dialect: FlatDialect, writer: FlatWriter, op: Op) -> FlatReply {
+    let to = Place { buf, dialect, writer };
+    match op {
+        Op::Open { count, seqno } => ffi::open(to, count, seqno),
+        Op::Put(Put::Item { value_type, keyspace, key, value }) => ffi::put_item(to, FlatItem { value_type, keyspace, key, value }),
+        Op::Put(Put::Clear { keyspace }) => ffi::put_clear(to, keyspace),
+        Op::Close => ffi::close(to),
+        Op::Write { seqno, put: Put::Item { value_type, keyspace, key, value } } => {
+            ffi::write_raw(to, seqno, FlatItem { value_type, keyspace, key, value })
         }
+        Op::Write { seqno, put: Put::Clear { keyspace } } => ffi::write_clear(to, seqno, keyspace),
     }
 }
 
@@ -258,16 +48,13 @@ pub enum Alone<'a> {
 }
 
 pub fn encode(buf: &mut [u8], d: FlatDialect, entry: Alone) -> FlatCount {
-    let (b, n) = (buf.as_mut_ptr(), buf.len());
-    unsafe {
-        match entry {
-            Alone::Start { count, seqno } => c::pierloft_encode_start(b, n, d, count, seqno),
-            Alone::Put(Put::Item { value_type, keyspace, key, value }) => {
-                c::pierloft_encode_item(b, n, d, value_type, keyspace, key.as_ptr(), key.len(), value.as_ptr(), value.len())
-            }
-            Alone::Put(Put::Clear { keyspace }) => c::pierloft_encode_clear(b, n, d, keyspace),
-            Alone::End { checksum } => c::pierloft_encode_end(b, n, d, checksum),
+    match entry {
+        Alone::Start { count, seqno } => ffi::encode_start(buf, d, count, seqno),
+        Alone::Put(Put::Item { value_type, keyspace, key, value }) => {
+            ffi::encode_item(buf, d, FlatItem { value_type, keyspace, key, value })
         }
+        Alone::Put(Put::Clear { keyspace }) => ffi::encode_clear(buf, d, keyspace),
+        Alone::End { checksum } => ffi::encode_end(buf, d, checksum),
     }
 }
 
