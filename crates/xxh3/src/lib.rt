@@ -4,7 +4,8 @@ ghost use mathlib.Core.Path.{_≡_};
 ghost use Prim.Native.Nat.{_+_, _*_, _≤_, _<_};
 ghost use lib.ListN.{length};
 ghost use Rattle.number.specs.Number.{times, le};
-ghost use Rattle.xxh3.specs.Xxh3.{prime64-1, avalanche, avalancheXXH64, xxh3-64-empty, xxh3-64-1to3, mixed4to8, xxh3-64-4to8, xxh3-64-9to16, mixStep, xxh3-64-17to128, chunks, xxh3-64-129to240, halves, lane, accumulate, scrambled, roundScramble, initialAcc, merged, finalMerge, xxh3-64-large, hash};
+ghost use Rattle.xxh3.specs.Xxh3.{prime64-1, avalanche, avalancheXXH64, xxh3-64-empty, xxh3-64-1to3, mixed4to8, xxh3-64-4to8, xxh3-64-9to16, mixStep, xxh3-64-17to128, chunks, xxh3-64-129to240, halves, lane, accumulate, scrambled, roundScramble, initialAcc, merged, finalMerge, xxh3-64-large, hash, defaultSecret};
+ghost use Rattle.xxh3.specs.Rounds.{roundIf};
 ghost use Rattle.xxh3.specs.Stripes.{blockEnd, stripes};
 ghost use Rattle.xxh3.specs.Hashed.{numberOf, tooLong, hashed};
 use number::LIMIT;
@@ -369,13 +370,22 @@ fn halves(value: u64) -> u64
     (value % 0x1_0000_0000) * (value / 0x1_0000_0000)
 }
 
+// `read_u64_le`, one call deeper: the compiler then makes one load of the eight bytes before it looks at their halves,
+// and takes the lanes two at a time.
+fn word(s: &[u8], i: usize) -> u64
+    requires { ⌜ i + 8 ≤ length (now s) ⌝ }
+    ensures { λ r. ⌜ r ≡ le 8 (now (s .entry)) i ⌝ }
+{
+    read_u64_le(s, i)
+}
+
 // The accumulator n, with the stripe at i and the secret at j; o is its neighbour's number.
 fn accumulate_lane(k: &[u8], s: &[u8], i: usize, j: usize, acc: u64, n: usize, o: usize) -> u64
     requires { ⌜ (i + 64 ≤ length (now s)) × (j + 64 ≤ length (now k)) × (n < 8) × (o < 8) ⌝ }
     ensures { λ r. ⌜ r ≡ lane acc (le 8 (now (s .entry)) (i + 8 * o)) (le 8 (now (s .entry)) (i + 8 * n)) (le 8 (now (k .entry)) (j + 8 * n)) ⌝ }
 {
-    let value = read_u64_le(s, i + 8 * n) ^ read_u64_le(k, j + 8 * n);
-    add64(add64(acc, read_u64_le(s, i + 8 * o)), halves(value))
+    let value = word(s, i + 8 * n) ^ word(k, j + 8 * n);
+    add64(add64(acc, word(s, i + 8 * o)), halves(value))
 }
 
 // Assumes a stripe at i of s and 64 bytes at j of the secret.
@@ -399,7 +409,7 @@ fn scramble_lane(k: &[u8], acc: u64, j: usize) -> u64
     requires { ⌜ j + 8 ≤ length (now k) ⌝ }
     ensures { λ r. ⌜ r ≡ scrambled acc (le 8 (now (k .entry)) j) ⌝ }
 {
-    mul64(xorshift64(acc, 47) ^ read_u64_le(k, j), 0x9E3779B1)
+    mul64(xorshift64(acc, 47) ^ word(k, j), 0x9E3779B1)
 }
 
 fn round_scramble(k: &[u8], a: [u64; 8]) -> [u64; 8]
@@ -429,13 +439,13 @@ fn block_end(k: &[u8], t: usize, a: [u64; 8]) -> [u64; 8]
     }
 }
 
-// m stripes of s from i on, the first of which is the stripe t of the input. Assumes that they are there, and that the
-// input's stripes can be counted.
-pub fn accumulate_stripes(k: &[u8], s: &[u8], m: usize, i: usize, t: usize, a: [u64; 8]) -> [u64; 8]
+// m stripes of s from i on, the first of which is the stripe t of the input, into lent accumulators. Assumes that they
+// are there, and that the input's stripes can be counted.
+pub fn accumulate_into(k: &[u8], s: &[u8], m: usize, i: usize, t: usize, a: &mut [u64; 8])
     requires { ⌜ (length (now k) ≡ 192) × (i + m * 64 ≤ length (now s)) × (t + m < 0x800_0000_0000_0000) ⌝ }
-    ensures { λ r. ⌜ r ≡ stripes (now (k .entry)) (now (s .entry)) m i t a ⌝ }
+    ensures { λ _. ⌜ now (a .exit) ≡ stripes (now (k .entry)) (now (s .entry)) m i t (now (a .entry)) ⌝ }
 {
-    let mut acc = a;
+    let mut acc = *a;
     let mut left = m;
     let mut at = i;
     let mut count = t;
@@ -445,6 +455,16 @@ pub fn accumulate_stripes(k: &[u8], s: &[u8], m: usize, i: usize, t: usize, a: [
         count += 1;
         left -= 1;
     }
+    *a = acc;
+}
+
+// The same with the accumulators by value.
+pub fn accumulate_stripes(k: &[u8], s: &[u8], m: usize, i: usize, t: usize, a: [u64; 8]) -> [u64; 8]
+    requires { ⌜ (length (now k) ≡ 192) × (i + m * 64 ≤ length (now s)) × (t + m < 0x800_0000_0000_0000) ⌝ }
+    ensures { λ r. ⌜ r ≡ stripes (now (k .entry)) (now (s .entry)) m i t a ⌝ }
+{
+    let mut acc = a;
+    accumulate_into(k, s, m, i, t, &mut acc);
     acc
 }
 
@@ -513,6 +533,102 @@ pub fn hash_of(k: &[u8], s: &[u8]) -> u64
     xxh3_64_large(k, s)
 }
 
+// ---- with the default secret
+
+// A constant array is laid on the stack anew by each function that names it. So short inputs have the secret's words as
+// numbers, and the others a function apart that names it.
+
+// `mix_step`, where x and y are the secret's words at j.
+fn mix_default(s: &[u8], i: usize, j: usize, x: u64, y: u64) -> u64
+    requires { ⌜ (i + 16 ≤ length (now s)) × (x ≡ le 8 defaultSecret j) × (y ≡ le 8 defaultSecret (j + 8)) ⌝ }
+    ensures { λ r. ⌜ r ≡ mixStep defaultSecret (now (s .entry)) i j ⌝ }
+{
+    fold64(read_u64_le(s, i) ^ x, read_u64_le(s, i + 8) ^ y)
+}
+
+// The round i of an input that is long enough to have it; x, y, v and w are the secret's words at i * 32.
+fn round_default(s: &[u8], i: usize, x: u64, y: u64, v: u64, w: u64, acc: u64) -> u64
+    requires { ⌜ (17 ≤ length (now s)) × (i < 4) × (x ≡ le 8 defaultSecret (i * 32)) × (y ≡ le 8 defaultSecret (i * 32 + 8)) × (v ≡ le 8 defaultSecret (i * 32 + 16)) × (w ≡ le 8 defaultSecret (i * 32 + 16 + 8)) ⌝ }
+    ensures { λ r. ⌜ r ≡ roundIf defaultSecret (now (s .entry)) i acc ⌝ }
+{
+    let n = s.len();
+    if n <= i * 32 {
+        return acc;
+    }
+    let first = add64(acc, mix_default(s, i * 16, i * 32, x, y));
+    add64(first, mix_default(s, n - i * 16 - 16, i * 32 + 16, v, w))
+}
+
+fn default_17to128(s: &[u8]) -> u64
+    requires { ⌜ (17 ≤ length (now s)) × (length (now s) ≤ 128) ⌝ }
+    ensures { λ r. ⌜ r ≡ xxh3-64-17to128 defaultSecret (now (s .entry)) ⌝ }
+{
+    let start = mul64(s.len() as u64, 0x9E3779B185EBCA87);
+    let third = round_default(
+        s,
+        3,
+        0x3f349ce33f76faa8,
+        0x1d4f0bc7c7bbdcf9,
+        0x3159b4cd4be0518a,
+        0x647378d9c97e9fc8,
+        start,
+    );
+    let second = round_default(
+        s,
+        2,
+        0xcb00c391bb52283c,
+        0xa32e531b8b65d088,
+        0x4ef90da297486471,
+        0xd8acdea946ef1938,
+        third,
+    );
+    let first = round_default(
+        s,
+        1,
+        0x78e5c0cc4ee679cb,
+        0x2172ffcc7dd05a82,
+        0x8e2443f7744608b8,
+        0x4c263a81e69035e0,
+        second,
+    );
+    avalanche(round_default(
+        s,
+        0,
+        0xbe4ba423396cfeb8,
+        0x1cad21f72c81017c,
+        0xdb979083e96dd4de,
+        0x1f67b3b7a4a44072,
+        first,
+    ))
+}
+
+fn default_small(s: &[u8]) -> u64
+    requires { ⌜ length (now s) ≤ 16 ⌝ }
+    ensures { λ r. ⌜ r ≡ hash defaultSecret (now (s .entry)) ⌝ }
+{
+    xxh3_64_small(&SECRET, s)
+}
+
+fn default_long(s: &[u8]) -> u64
+    ensures { λ r. ⌜ r ≡ hash defaultSecret (now (s .entry)) ⌝ }
+{
+    hash_of(&SECRET, s)
+}
+
+// `hash_of` with the default secret.
+pub fn hash_default(s: &[u8]) -> u64
+    ensures { λ r. ⌜ r ≡ hash defaultSecret (now (s .entry)) ⌝ }
+{
+    let n = s.len();
+    if 128 < n {
+        return default_long(s);
+    }
+    if 16 < n {
+        return default_17to128(s);
+    }
+    default_small(s)
+}
+
 // XXH3-64 of s, or 21 exactly if s exceeds 4,294,967,295 bytes.
 pub fn xxh3_64(s: &[u8]) -> Hashed
     ensures { λ r. ⌜ (r ≡ hashed (now (s .entry))) × (numberOf r ≡ tooLong (length (now (s .entry)))) ⌝ }
@@ -520,5 +636,5 @@ pub fn xxh3_64(s: &[u8]) -> Hashed
     if LIMIT < s.len() as u64 {
         return Hashed::Refused(21);
     }
-    Hashed::Sum(hash_of(&SECRET, s))
+    Hashed::Sum(hash_default(s))
 }
