@@ -1,10 +1,11 @@
 // XXH3-64 in one shot, seed 0, after the public xxHash specification, whose names its functions have. The public
 // call is `xxh3_64`. The other `pub` functions serve the crates above: each takes the secret `k` and assumes what it says.
 ghost use mathlib.Core.Path.{_≡_};
-ghost use Prim.Native.Nat.{_+_, _*_, _≤_, _<_};
+ghost use Prim.Native.Nat.{_+_, _-_, _*_, _≤_, _<_};
+ghost use lib.Bits.{bitXor};
 ghost use lib.ListN.{length};
 ghost use Rattle.number.specs.Number.{times, le};
-ghost use Rattle.xxh3.specs.Xxh3.{prime64-1, avalanche, avalancheXXH64, xxh3-64-empty, xxh3-64-1to3, mixed4to8, xxh3-64-4to8, xxh3-64-9to16, mixStep, xxh3-64-17to128, chunks, xxh3-64-129to240, halves, lane, accumulate, scrambled, roundScramble, initialAcc, merged, finalMerge, xxh3-64-large, hash, defaultSecret};
+ghost use Rattle.xxh3.specs.Xxh3.{prime64-1, avalanche, avalancheXXH64, xxh3-64-empty, combined1to3, xxh3-64-1to3, combined4to8, mixed4to8, xxh3-64-4to8, value9to16, xxh3-64-9to16, mixStep, xxh3-64-17to128, chunks, xxh3-64-129to240, halves, lane, accumulate, scrambled, roundScramble, initialAcc, merged, finalMerge, xxh3-64-large, hash, defaultSecret};
 ghost use Rattle.xxh3.specs.Rounds.{roundIf};
 ghost use Rattle.xxh3.specs.Stripes.{blockEnd, stripes};
 ghost use Rattle.xxh3.specs.Hashed.{numberOf, tooLong, hashed};
@@ -246,16 +247,24 @@ fn xxh3_64_empty(k: &[u8]) -> u64
     avalanche_xxh64(read_u64_le(k, 56) ^ read_u64_le(k, 64))
 }
 
-fn xxh3_64_1to3(k: &[u8], s: &[u8]) -> u64
-    requires { ⌜ (length (now k) ≡ 192) × (1 ≤ length (now s)) × (length (now s) ≤ 3) ⌝ }
-    ensures { λ r. ⌜ r ≡ xxh3-64-1to3 (now (k .entry)) (now (s .entry)) ⌝ }
+// 1 to 3 bytes, with a word of the secret.
+fn mix_1to3(word: u64, s: &[u8]) -> u64
+    requires { ⌜ (1 ≤ length (now s)) × (length (now s) ≤ 3) ⌝ }
+    ensures { λ r. ⌜ r ≡ avalancheXXH64 (bitXor word (combined1to3 (now (s .entry)))) ⌝ }
 {
     let n = s.len();
     let combined = wide8(s[n - 1])
         + (n as u64) * 0x100
         + wide8(s[0]) * 0x1_0000
         + wide8(s[n / 2]) * 0x100_0000;
-    avalanche_xxh64((read_u32_le(k, 0) ^ read_u32_le(k, 4)) ^ combined)
+    avalanche_xxh64(word ^ combined)
+}
+
+fn xxh3_64_1to3(k: &[u8], s: &[u8]) -> u64
+    requires { ⌜ (length (now k) ≡ 192) × (1 ≤ length (now s)) × (length (now s) ≤ 3) ⌝ }
+    ensures { λ r. ⌜ r ≡ xxh3-64-1to3 (now (k .entry)) (now (s .entry)) ⌝ }
+{
+    mix_1to3(read_u32_le(k, 0) ^ read_u32_le(k, 4), s)
 }
 
 fn mixed_4to8(value: u64, n: u64) -> u64
@@ -270,25 +279,42 @@ fn mixed_4to8(value: u64, n: u64) -> u64
     xorshift64(b, 28)
 }
 
+// 4 to 8 bytes, with a word of the secret.
+fn mix_4to8(word: u64, s: &[u8]) -> u64
+    requires { ⌜ (4 ≤ length (now s)) × (length (now s) ≤ 8) ⌝ }
+    ensures { λ r. ⌜ r ≡ mixed4to8 (length (now (s .entry))) (bitXor word (combined4to8 (now (s .entry)))) ⌝ }
+{
+    let n = s.len();
+    let combined = read_u32_le(s, n - 4) + read_u32_le(s, 0) * 0x1_0000_0000;
+    mixed_4to8(word ^ combined, n as u64)
+}
+
 fn xxh3_64_4to8(k: &[u8], s: &[u8]) -> u64
     requires { ⌜ (length (now k) ≡ 192) × (4 ≤ length (now s)) × (length (now s) ≤ 8) ⌝ }
     ensures { λ r. ⌜ r ≡ xxh3-64-4to8 (now (k .entry)) (now (s .entry)) ⌝ }
 {
+    mix_4to8(read_u64_le(k, 8) ^ read_u64_le(k, 16), s)
+}
+
+// 9 to 16 bytes, with two words of the secret.
+fn mix_9to16(x: u64, y: u64, s: &[u8]) -> u64
+    requires { ⌜ (9 ≤ length (now s)) × (length (now s) ≤ 16) ⌝ }
+    ensures { λ r. ⌜ r ≡ avalanche (value9to16 (length (now (s .entry))) (bitXor x (le 8 (now (s .entry)) 0)) (bitXor y (le 8 (now (s .entry)) (length (now (s .entry)) - 8)))) ⌝ }
+{
     let n = s.len();
-    let combined = read_u32_le(s, n - 4) + read_u32_le(s, 0) * 0x1_0000_0000;
-    let words = read_u64_le(k, 8) ^ read_u64_le(k, 16);
-    mixed_4to8(words ^ combined, n as u64)
+    let low = x ^ read_u64_le(s, 0);
+    let high = y ^ read_u64_le(s, n - 8);
+    let value = add64(add64(n as u64, swap64(low)), high);
+    avalanche(add64(value, fold64(low, high)))
 }
 
 fn xxh3_64_9to16(k: &[u8], s: &[u8]) -> u64
     requires { ⌜ (length (now k) ≡ 192) × (9 ≤ length (now s)) × (length (now s) ≤ 16) ⌝ }
     ensures { λ r. ⌜ r ≡ xxh3-64-9to16 (now (k .entry)) (now (s .entry)) ⌝ }
 {
-    let n = s.len();
-    let low = (read_u64_le(k, 24) ^ read_u64_le(k, 32)) ^ read_u64_le(s, 0);
-    let high = (read_u64_le(k, 40) ^ read_u64_le(k, 48)) ^ read_u64_le(s, n - 8);
-    let value = add64(add64(n as u64, swap64(low)), high);
-    avalanche(add64(value, fold64(low, high)))
+    let x = read_u64_le(k, 24) ^ read_u64_le(k, 32);
+    let y = read_u64_le(k, 40) ^ read_u64_le(k, 48);
+    mix_9to16(x, y, s)
 }
 
 // ---- medium inputs
@@ -535,8 +561,8 @@ pub fn hash_of(k: &[u8], s: &[u8]) -> u64
 
 // ---- with the default secret
 
-// A constant array is laid on the stack anew by each function that names it. So short inputs have the secret's words as
-// numbers, and the others a function apart that names it.
+// A function that names a constant array lays it on the stack anew in each call. So inputs of at most 128 bytes have the
+// secret's words as numbers, and the others a function apart that names it.
 
 // `mix_step`, where x and y are the secret's words at j.
 fn mix_default(s: &[u8], i: usize, j: usize, x: u64, y: u64) -> u64
@@ -606,7 +632,17 @@ fn default_small(s: &[u8]) -> u64
     requires { ⌜ length (now s) ≤ 16 ⌝ }
     ensures { λ r. ⌜ r ≡ hash defaultSecret (now (s .entry)) ⌝ }
 {
-    xxh3_64_small(&SECRET, s)
+    let n = s.len();
+    if n == 0 {
+        return avalanche_xxh64(0x8726f9105dc21ddc);
+    }
+    if n <= 3 {
+        return mix_1to3(0x87275a9b, s);
+    }
+    if n <= 8 {
+        return mix_4to8(0xc73ab174c5ecd5a2, s);
+    }
+    mix_9to16(0x6782737bea4239b9, 0xaf56bc3b0996523a, s)
 }
 
 fn default_long(s: &[u8]) -> u64
