@@ -484,16 +484,6 @@ pub fn accumulate_into(k: &[u8], s: &[u8], m: usize, i: usize, t: usize, a: &mut
     *a = acc;
 }
 
-// The same with the accumulators by value.
-pub fn accumulate_stripes(k: &[u8], s: &[u8], m: usize, i: usize, t: usize, a: [u64; 8]) -> [u64; 8]
-    requires { ⌜ (length (now k) ≡ 192) × (i + m * 64 ≤ length (now s)) × (t + m < 0x800_0000_0000_0000) ⌝ }
-    ensures { λ r. ⌜ r ≡ stripes (now (k .entry)) (now (s .entry)) m i t a ⌝ }
-{
-    let mut acc = a;
-    accumulate_into(k, s, m, i, t, &mut acc);
-    acc
-}
-
 fn merge_pair(k: &[u8], j: usize, x: u64, y: u64) -> u64
     requires { ⌜ j + 16 ≤ length (now k) ⌝ }
     ensures { λ r. ⌜ r ≡ merged (now (k .entry)) j x y ⌝ }
@@ -517,7 +507,8 @@ fn xxh3_64_large(k: &[u8], s: &[u8]) -> u64
     ensures { λ r. ⌜ r ≡ xxh3-64-large (now (k .entry)) (now (s .entry)) ⌝ }
 {
     let n = s.len();
-    let a = accumulate_stripes(k, s, (n - 1) / 64, 0, 0, initial_acc());
+    let mut a = initial_acc();
+    accumulate_into(k, s, (n - 1) / 64, 0, 0, &mut a);
     final_merge(k, n as u64, accumulate(k, s, n - 64, 121, a))
 }
 
