@@ -1,10 +1,12 @@
 // XXH3-64 in one shot, seed 0, after the public xxHash specification, whose names its functions have. The public
 // call is `xxh3_64`. The other `pub` functions serve the crates above: each takes the secret `k` and assumes what it says.
 ghost use mathlib.Core.Path.{_≡_};
-ghost use Prim.Native.Nat.{_+_, _*_, _≤_, _<_};
+ghost use Prim.Native.Nat.{_+_, _-_, _*_, _≤_, _<_};
+ghost use lib.Bits.{bitXor};
 ghost use lib.ListN.{length};
 ghost use Rattle.number.specs.Number.{times, le};
-ghost use Rattle.xxh3.specs.Xxh3.{prime64-1, avalanche, avalancheXXH64, xxh3-64-empty, xxh3-64-1to3, mixed4to8, xxh3-64-4to8, xxh3-64-9to16, mixStep, xxh3-64-17to128, chunks, xxh3-64-129to240, halves, lane, accumulate, scrambled, roundScramble, initialAcc, merged, finalMerge, xxh3-64-large, hash};
+ghost use Rattle.xxh3.specs.Xxh3.{prime64-1, avalanche, avalancheXXH64, xxh3-64-empty, combined1to3, xxh3-64-1to3, combined4to8, mixed4to8, xxh3-64-4to8, value9to16, xxh3-64-9to16, mixStep, xxh3-64-17to128, chunks, xxh3-64-129to240, halves, lane, accumulate, scrambled, roundScramble, initialAcc, merged, finalMerge, xxh3-64-large, hash, defaultSecret};
+ghost use Rattle.xxh3.specs.Rounds.{roundIf};
 ghost use Rattle.xxh3.specs.Stripes.{blockEnd, stripes};
 ghost use Rattle.xxh3.specs.Hashed.{numberOf, tooLong, hashed};
 use number::LIMIT;
@@ -245,16 +247,24 @@ fn xxh3_64_empty(k: &[u8]) -> u64
     avalanche_xxh64(read_u64_le(k, 56) ^ read_u64_le(k, 64))
 }
 
-fn xxh3_64_1to3(k: &[u8], s: &[u8]) -> u64
-    requires { ⌜ (length (now k) ≡ 192) × (1 ≤ length (now s)) × (length (now s) ≤ 3) ⌝ }
-    ensures { λ r. ⌜ r ≡ xxh3-64-1to3 (now (k .entry)) (now (s .entry)) ⌝ }
+// 1 to 3 bytes, with a word of the secret.
+fn mix_1to3(word: u64, s: &[u8]) -> u64
+    requires { ⌜ (1 ≤ length (now s)) × (length (now s) ≤ 3) ⌝ }
+    ensures { λ r. ⌜ r ≡ avalancheXXH64 (bitXor word (combined1to3 (now (s .entry)))) ⌝ }
 {
     let n = s.len();
     let combined = wide8(s[n - 1])
         + (n as u64) * 0x100
         + wide8(s[0]) * 0x1_0000
         + wide8(s[n / 2]) * 0x100_0000;
-    avalanche_xxh64((read_u32_le(k, 0) ^ read_u32_le(k, 4)) ^ combined)
+    avalanche_xxh64(word ^ combined)
+}
+
+fn xxh3_64_1to3(k: &[u8], s: &[u8]) -> u64
+    requires { ⌜ (length (now k) ≡ 192) × (1 ≤ length (now s)) × (length (now s) ≤ 3) ⌝ }
+    ensures { λ r. ⌜ r ≡ xxh3-64-1to3 (now (k .entry)) (now (s .entry)) ⌝ }
+{
+    mix_1to3(read_u32_le(k, 0) ^ read_u32_le(k, 4), s)
 }
 
 fn mixed_4to8(value: u64, n: u64) -> u64
@@ -269,25 +279,42 @@ fn mixed_4to8(value: u64, n: u64) -> u64
     xorshift64(b, 28)
 }
 
+// 4 to 8 bytes, with a word of the secret.
+fn mix_4to8(word: u64, s: &[u8]) -> u64
+    requires { ⌜ (4 ≤ length (now s)) × (length (now s) ≤ 8) ⌝ }
+    ensures { λ r. ⌜ r ≡ mixed4to8 (length (now (s .entry))) (bitXor word (combined4to8 (now (s .entry)))) ⌝ }
+{
+    let n = s.len();
+    let combined = read_u32_le(s, n - 4) + read_u32_le(s, 0) * 0x1_0000_0000;
+    mixed_4to8(word ^ combined, n as u64)
+}
+
 fn xxh3_64_4to8(k: &[u8], s: &[u8]) -> u64
     requires { ⌜ (length (now k) ≡ 192) × (4 ≤ length (now s)) × (length (now s) ≤ 8) ⌝ }
     ensures { λ r. ⌜ r ≡ xxh3-64-4to8 (now (k .entry)) (now (s .entry)) ⌝ }
 {
+    mix_4to8(read_u64_le(k, 8) ^ read_u64_le(k, 16), s)
+}
+
+// 9 to 16 bytes, with two words of the secret.
+fn mix_9to16(x: u64, y: u64, s: &[u8]) -> u64
+    requires { ⌜ (9 ≤ length (now s)) × (length (now s) ≤ 16) ⌝ }
+    ensures { λ r. ⌜ r ≡ avalanche (value9to16 (length (now (s .entry))) (bitXor x (le 8 (now (s .entry)) 0)) (bitXor y (le 8 (now (s .entry)) (length (now (s .entry)) - 8)))) ⌝ }
+{
     let n = s.len();
-    let combined = read_u32_le(s, n - 4) + read_u32_le(s, 0) * 0x1_0000_0000;
-    let words = read_u64_le(k, 8) ^ read_u64_le(k, 16);
-    mixed_4to8(words ^ combined, n as u64)
+    let low = x ^ read_u64_le(s, 0);
+    let high = y ^ read_u64_le(s, n - 8);
+    let value = add64(add64(n as u64, swap64(low)), high);
+    avalanche(add64(value, fold64(low, high)))
 }
 
 fn xxh3_64_9to16(k: &[u8], s: &[u8]) -> u64
     requires { ⌜ (length (now k) ≡ 192) × (9 ≤ length (now s)) × (length (now s) ≤ 16) ⌝ }
     ensures { λ r. ⌜ r ≡ xxh3-64-9to16 (now (k .entry)) (now (s .entry)) ⌝ }
 {
-    let n = s.len();
-    let low = (read_u64_le(k, 24) ^ read_u64_le(k, 32)) ^ read_u64_le(s, 0);
-    let high = (read_u64_le(k, 40) ^ read_u64_le(k, 48)) ^ read_u64_le(s, n - 8);
-    let value = add64(add64(n as u64, swap64(low)), high);
-    avalanche(add64(value, fold64(low, high)))
+    let x = read_u64_le(k, 24) ^ read_u64_le(k, 32);
+    let y = read_u64_le(k, 40) ^ read_u64_le(k, 48);
+    mix_9to16(x, y, s)
 }
 
 // ---- medium inputs
@@ -369,13 +396,22 @@ fn halves(value: u64) -> u64
     (value % 0x1_0000_0000) * (value / 0x1_0000_0000)
 }
 
+// `read_u64_le`, one call deeper: the compiler then makes one load of the eight bytes before it looks at their halves,
+// and takes the lanes two at a time.
+fn word(s: &[u8], i: usize) -> u64
+    requires { ⌜ i + 8 ≤ length (now s) ⌝ }
+    ensures { λ r. ⌜ r ≡ le 8 (now (s .entry)) i ⌝ }
+{
+    read_u64_le(s, i)
+}
+
 // The accumulator n, with the stripe at i and the secret at j; o is its neighbour's number.
 fn accumulate_lane(k: &[u8], s: &[u8], i: usize, j: usize, acc: u64, n: usize, o: usize) -> u64
     requires { ⌜ (i + 64 ≤ length (now s)) × (j + 64 ≤ length (now k)) × (n < 8) × (o < 8) ⌝ }
     ensures { λ r. ⌜ r ≡ lane acc (le 8 (now (s .entry)) (i + 8 * o)) (le 8 (now (s .entry)) (i + 8 * n)) (le 8 (now (k .entry)) (j + 8 * n)) ⌝ }
 {
-    let value = read_u64_le(s, i + 8 * n) ^ read_u64_le(k, j + 8 * n);
-    add64(add64(acc, read_u64_le(s, i + 8 * o)), halves(value))
+    let value = word(s, i + 8 * n) ^ word(k, j + 8 * n);
+    add64(add64(acc, word(s, i + 8 * o)), halves(value))
 }
 
 // Assumes a stripe at i of s and 64 bytes at j of the secret.
@@ -399,7 +435,7 @@ fn scramble_lane(k: &[u8], acc: u64, j: usize) -> u64
     requires { ⌜ j + 8 ≤ length (now k) ⌝ }
     ensures { λ r. ⌜ r ≡ scrambled acc (le 8 (now (k .entry)) j) ⌝ }
 {
-    mul64(xorshift64(acc, 47) ^ read_u64_le(k, j), 0x9E3779B1)
+    mul64(xorshift64(acc, 47) ^ word(k, j), 0x9E3779B1)
 }
 
 fn round_scramble(k: &[u8], a: [u64; 8]) -> [u64; 8]
@@ -429,13 +465,13 @@ fn block_end(k: &[u8], t: usize, a: [u64; 8]) -> [u64; 8]
     }
 }
 
-// m stripes of s from i on, the first of which is the stripe t of the input. Assumes that they are there, and that the
-// input's stripes can be counted.
-pub fn accumulate_stripes(k: &[u8], s: &[u8], m: usize, i: usize, t: usize, a: [u64; 8]) -> [u64; 8]
+// m stripes of s from i on, the first of which is the stripe t of the input, into lent accumulators. Assumes that they
+// are there, and that the input's stripes can be counted.
+pub fn accumulate_into(k: &[u8], s: &[u8], m: usize, i: usize, t: usize, a: &mut [u64; 8])
     requires { ⌜ (length (now k) ≡ 192) × (i + m * 64 ≤ length (now s)) × (t + m < 0x800_0000_0000_0000) ⌝ }
-    ensures { λ r. ⌜ r ≡ stripes (now (k .entry)) (now (s .entry)) m i t a ⌝ }
+    ensures { λ _. ⌜ now (a .exit) ≡ stripes (now (k .entry)) (now (s .entry)) m i t (now (a .entry)) ⌝ }
 {
-    let mut acc = a;
+    let mut acc = *a;
     let mut left = m;
     let mut at = i;
     let mut count = t;
@@ -445,7 +481,7 @@ pub fn accumulate_stripes(k: &[u8], s: &[u8], m: usize, i: usize, t: usize, a: [
         count += 1;
         left -= 1;
     }
-    acc
+    *a = acc;
 }
 
 fn merge_pair(k: &[u8], j: usize, x: u64, y: u64) -> u64
@@ -471,7 +507,8 @@ fn xxh3_64_large(k: &[u8], s: &[u8]) -> u64
     ensures { λ r. ⌜ r ≡ xxh3-64-large (now (k .entry)) (now (s .entry)) ⌝ }
 {
     let n = s.len();
-    let a = accumulate_stripes(k, s, (n - 1) / 64, 0, 0, initial_acc());
+    let mut a = initial_acc();
+    accumulate_into(k, s, (n - 1) / 64, 0, 0, &mut a);
     final_merge(k, n as u64, accumulate(k, s, n - 64, 121, a))
 }
 
@@ -513,6 +550,112 @@ pub fn hash_of(k: &[u8], s: &[u8]) -> u64
     xxh3_64_large(k, s)
 }
 
+// ---- with the default secret
+
+// A function that names a constant array lays it on the stack anew in each call. So inputs of at most 128 bytes have the
+// secret's words as numbers, and the others a function apart that names it.
+
+// `mix_step`, where x and y are the secret's words at j.
+fn mix_default(s: &[u8], i: usize, j: usize, x: u64, y: u64) -> u64
+    requires { ⌜ (i + 16 ≤ length (now s)) × (x ≡ le 8 defaultSecret j) × (y ≡ le 8 defaultSecret (j + 8)) ⌝ }
+    ensures { λ r. ⌜ r ≡ mixStep defaultSecret (now (s .entry)) i j ⌝ }
+{
+    fold64(read_u64_le(s, i) ^ x, read_u64_le(s, i + 8) ^ y)
+}
+
+// The round i of an input that is long enough to have it; x, y, v and w are the secret's words at i * 32.
+fn round_default(s: &[u8], i: usize, x: u64, y: u64, v: u64, w: u64, acc: u64) -> u64
+    requires { ⌜ (17 ≤ length (now s)) × (i < 4) × (x ≡ le 8 defaultSecret (i * 32)) × (y ≡ le 8 defaultSecret (i * 32 + 8)) × (v ≡ le 8 defaultSecret (i * 32 + 16)) × (w ≡ le 8 defaultSecret (i * 32 + 16 + 8)) ⌝ }
+    ensures { λ r. ⌜ r ≡ roundIf defaultSecret (now (s .entry)) i acc ⌝ }
+{
+    let n = s.len();
+    if n <= i * 32 {
+        return acc;
+    }
+    let first = add64(acc, mix_default(s, i * 16, i * 32, x, y));
+    add64(first, mix_default(s, n - i * 16 - 16, i * 32 + 16, v, w))
+}
+
+fn default_17to128(s: &[u8]) -> u64
+    requires { ⌜ (17 ≤ length (now s)) × (length (now s) ≤ 128) ⌝ }
+    ensures { λ r. ⌜ r ≡ xxh3-64-17to128 defaultSecret (now (s .entry)) ⌝ }
+{
+    let start = mul64(s.len() as u64, 0x9E3779B185EBCA87);
+    let third = round_default(
+        s,
+        3,
+        0x3f349ce33f76faa8,
+        0x1d4f0bc7c7bbdcf9,
+        0x3159b4cd4be0518a,
+        0x647378d9c97e9fc8,
+        start,
+    );
+    let second = round_default(
+        s,
+        2,
+        0xcb00c391bb52283c,
+        0xa32e531b8b65d088,
+        0x4ef90da297486471,
+        0xd8acdea946ef1938,
+        third,
+    );
+    let first = round_default(
+        s,
+        1,
+        0x78e5c0cc4ee679cb,
+        0x2172ffcc7dd05a82,
+        0x8e2443f7744608b8,
+        0x4c263a81e69035e0,
+        second,
+    );
+    avalanche(round_default(
+        s,
+        0,
+        0xbe4ba423396cfeb8,
+        0x1cad21f72c81017c,
+        0xdb979083e96dd4de,
+        0x1f67b3b7a4a44072,
+        first,
+    ))
+}
+
+fn default_small(s: &[u8]) -> u64
+    requires { ⌜ length (now s) ≤ 16 ⌝ }
+    ensures { λ r. ⌜ r ≡ hash defaultSecret (now (s .entry)) ⌝ }
+{
+    let n = s.len();
+    if n == 0 {
+        return avalanche_xxh64(0x8726f9105dc21ddc);
+    }
+    if n <= 3 {
+        return mix_1to3(0x87275a9b, s);
+    }
+    if n <= 8 {
+        return mix_4to8(0xc73ab174c5ecd5a2, s);
+    }
+    mix_9to16(0x6782737bea4239b9, 0xaf56bc3b0996523a, s)
+}
+
+fn default_long(s: &[u8]) -> u64
+    ensures { λ r. ⌜ r ≡ hash defaultSecret (now (s .entry)) ⌝ }
+{
+    hash_of(&SECRET, s)
+}
+
+// `hash_of` with the default secret.
+pub fn hash_default(s: &[u8]) -> u64
+    ensures { λ r. ⌜ r ≡ hash defaultSecret (now (s .entry)) ⌝ }
+{
+    let n = s.len();
+    if 128 < n {
+        return default_long(s);
+    }
+    if 16 < n {
+        return default_17to128(s);
+    }
+    default_small(s)
+}
+
 // XXH3-64 of s, or 21 exactly if s exceeds 4,294,967,295 bytes.
 pub fn xxh3_64(s: &[u8]) -> Hashed
     ensures { λ r. ⌜ (r ≡ hashed (now (s .entry))) × (numberOf r ≡ tooLong (length (now (s .entry)))) ⌝ }
@@ -520,5 +663,5 @@ pub fn xxh3_64(s: &[u8]) -> Hashed
     if LIMIT < s.len() as u64 {
         return Hashed::Refused(21);
     }
-    Hashed::Sum(hash_of(&SECRET, s))
+    Hashed::Sum(hash_default(s))
 }
