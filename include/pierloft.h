@@ -228,6 +228,11 @@ uint32_t pierloft_absorb_into(pierloft_hasher *state, const uint8_t *piece, size
 /* The hash of the pieces joined, or PIERLOFT_STATE where the state's total is past the limit. */
 pierloft_hash pierloft_finish(pierloft_hasher state);
 
+/* The last two over the parts of a state, each lent, so that no copy of it is made:
+   pierloft_absorb_at(h.acc, h.hold, &h.total, piece, length). */
+uint32_t pierloft_absorb_at(uint64_t acc[8], uint8_t hold[256], uint64_t *total, const uint8_t *piece, size_t length);
+pierloft_hash pierloft_finish_at(const uint64_t acc[8], const uint8_t hold[256], uint64_t total);
+
 #ifdef __cplusplus
 }
 #endif

@@ -172,15 +172,19 @@ static void hashes(void)
     IS(h.number == 0 && h.hash == none);
     h = pierloft_xxh3_64(journal + 13, 24);
     IS(h.number == 0 && h.hash == UINT64_C(0xdd51b14eba25ad58));
-    pierloft_hasher new = pierloft_hasher_new(), lent = new;
+    pierloft_hasher new = pierloft_hasher_new(), lent = new, parts = new;
     IS(new.total == 0 && new.acc[0] == UINT64_C(0xc2b2ae3d) && new.acc[7] == UINT64_C(0x9e3779b1) && new.hold[255] == 0);
     IS(pierloft_finish(new).hash == none);
+    IS(pierloft_finish_at(new.acc, new.hold, new.total).hash == none);
     pierloft_absorbed a = pierloft_absorb(new, journal + 13, 20);
     IS(a.number == 0 && a.state.total == 20 && memcmp(a.state.hold, journal + 13, 20) == 0);
     IS(pierloft_absorb_into(&lent, journal + 13, 20) == 0 && memcmp(&lent, &a.state, sizeof lent) == 0);
+    IS(pierloft_absorb_at(parts.acc, parts.hold, &parts.total, journal + 13, 20) == 0 && memcmp(&parts, &a.state, sizeof parts) == 0);
     a = pierloft_absorb(a.state, journal + 33, 4);
     IS(a.number == 0 && pierloft_finish(a.state).hash == UINT64_C(0xdd51b14eba25ad58));
     IS(pierloft_absorb_into(&lent, journal + 33, 4) == 0 && memcmp(&lent, &a.state, sizeof lent) == 0);
+    IS(pierloft_absorb_at(parts.acc, parts.hold, &parts.total, journal + 33, 4) == 0 && memcmp(&parts, &a.state, sizeof parts) == 0);
+    IS(pierloft_finish_at(parts.acc, parts.hold, parts.total).hash == UINT64_C(0xdd51b14eba25ad58));
     lent.total = UINT64_C(0xfffffffe);
     for (int i = 0; i < 8; i++)
         lent.acc[i] = 100 + i;
@@ -190,9 +194,14 @@ static void hashes(void)
     a = pierloft_absorb(lent, journal, 2);
     IS(a.number == PIERLOFT_TOO_LONG && memcmp(&a.state, &came, sizeof came) == 0);
     IS(pierloft_absorb_into(&lent, journal, 2) == PIERLOFT_TOO_LONG && memcmp(&lent, &came, sizeof came) == 0);
+    parts = came;
+    IS(pierloft_absorb_at(parts.acc, parts.hold, &parts.total, journal, 2) == PIERLOFT_TOO_LONG && memcmp(&parts, &came, sizeof came) == 0);
     IS(pierloft_absorb_into(&lent, journal, 1) == 0 && lent.total == UINT64_C(0xffffffff));
+    IS(pierloft_absorb_at(parts.acc, parts.hold, &parts.total, journal, 1) == 0 && memcmp(&parts, &lent, sizeof lent) == 0);
     lent.total++;
     h = pierloft_finish(lent);
+    IS(h.number == PIERLOFT_STATE && h.hash == 0);
+    h = pierloft_finish_at(lent.acc, lent.hold, lent.total);
     IS(h.number == PIERLOFT_STATE && h.hash == 0);
 }
 

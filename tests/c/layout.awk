@@ -26,6 +26,8 @@ function c_type(t) {
     if (t == "usize") return "size_t"
     if (t ~ /^u(8|16|32|64)$/) return "uint" substr(t, 2) "_t"
     if (t in sizes) return c_name(t)
+    if (t ~ /^\[.*; [0-9]+\]$/) { sub(/^\[/, "", t); sub(/; [0-9]+\]$/, "", t); return c_type(t) }
+    if (t ~ /^&\[/) return "const " c_type(substr(t, 2)) " *"
     if (t ~ /^&mut /) return c_type(substr(t, 6)) " *"
     fail("no C type for " t)
 }

@@ -10,7 +10,7 @@ ghost use Rattle.encode.specs.Encoding.{encoded};
 ghost use Rattle.view.specs.View.{pairOf, bodySpan};
 ghost use Rattle.xxh3.specs.Xxh3.{defaultSecret, hash};
 ghost use Rattle.xxh3.specs.Hashed.{hashed};
-ghost use Rattle.stream.specs.Stream.{fresh};
+ghost use Rattle.stream.specs.Stream.{fresh, state};
 ghost use Rattle.stream.specs.Calls.{absorbed, finished};
 ghost use Rattle.reader.specs.Reading.{stepped, keptOf};
 ghost use Rattle.writer.specs.Writing.{openCall, putCall, closeCall, writeCall};
@@ -142,6 +142,27 @@ pub extern "C" fn pierloft_finish(state: Hasher) -> FlatHash
     ensures { λ r. ⌜ r ≡ flatHash (finished state) ⌝ }
 {
     flat_hash(stream::finish(state))
+}
+
+// The same two over the parts of a state, each lent: no copy of it is made.
+
+#[no_mangle]
+pub extern "C" fn pierloft_absorb_at(
+    acc: &mut [u64; 8],
+    hold: &mut [u8; 256],
+    total: &mut u64,
+    piece: &[u8],
+) -> u32
+    ensures { λ r. ⌜ (r ≡ absorbed (state (now (acc .entry)) (now (hold .entry)) (now (total .entry))) (now (piece .entry)) .number) × (state (now (acc .exit)) (now (hold .exit)) (now (total .exit)) ≡ absorbed (state (now (acc .entry)) (now (hold .entry)) (now (total .entry))) (now (piece .entry)) .state) ⌝ }
+{
+    stream::absorb_at(acc, hold, total, piece)
+}
+
+#[no_mangle]
+pub extern "C" fn pierloft_finish_at(acc: &[u64; 8], hold: &[u8; 256], total: u64) -> FlatHash
+    ensures { λ r. ⌜ r ≡ flatHash (finished (state (now (acc .entry)) (now (hold .entry)) total)) ⌝ }
+{
+    flat_hash(stream::finish_at(acc, hold, total))
 }
 
 // `pierloft_absorb` on a state that is lent and changed in place.

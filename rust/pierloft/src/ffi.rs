@@ -155,6 +155,18 @@ mod c {
             piece_length: usize,
         ) -> u32;
         pub fn pierloft_finish(state: Hasher) -> FlatHash;
+        pub fn pierloft_absorb_at(
+            acc: *mut [u64; 8],
+            hold: *mut [u8; 256],
+            total: *mut u64,
+            piece: *const u8,
+            piece_length: usize,
+        ) -> u32;
+        pub fn pierloft_finish_at(
+            acc: *const [u64; 8],
+            hold: *const [u8; 256],
+            total: u64,
+        ) -> FlatHash;
         pub fn pierloft_encode_start(
             buf: *mut u8,
             buf_length: usize,
@@ -310,6 +322,17 @@ pub fn absorb_into(state: &mut Hasher, piece: &[u8]) -> u32 {
 #[inline]
 pub fn finish(state: Hasher) -> FlatHash {
     unsafe { c::pierloft_finish(state) }
+}
+
+#[inline]
+pub fn absorb_at(state: &mut Hasher, piece: &[u8]) -> u32 {
+    let Hasher { acc, hold, total } = state;
+    unsafe { c::pierloft_absorb_at(acc, hold, total, piece.as_ptr(), piece.len()) }
+}
+
+#[inline]
+pub fn finish_at(state: &Hasher) -> FlatHash {
+    unsafe { c::pierloft_finish_at(&state.acc, &state.hold, state.total) }
 }
 
 /// An item's four parts. The type is 0 to 3; any other is refused.

@@ -42,13 +42,13 @@ impl Xxh3 {
     ///
     /// [`Refusal::TooLong`] where all pieces together would exceed 4,294,967,295 bytes. The piece is then not taken in.
     pub fn update(&mut self, piece: &[u8]) -> Result<(), Refusal> {
-        Refusal::of(ffi::absorb_into(&mut self.0, piece))
+        Refusal::of(ffi::absorb_at(&mut self.0, piece))
     }
 
     /// The hash of the pieces joined. More pieces may follow.
     pub fn digest(&self) -> u64 {
         // refused only where the total is past the limit, and `update` takes no total there
-        ffi::finish(self.0).hash
+        ffi::finish_at(&self.0).hash
     }
 
     /// How many bytes the pieces have together.

@@ -154,7 +154,8 @@ fn holds(state: &FlatHasher, bytes: &[u8]) -> bool {
 fn hash(i: &mut Input) -> Said {
     let cuts = &mut Input(i.take(8));
     let all = i.0;
-    let (mut value, mut lent) = (ours::hasher_new(), ours::hasher_new());
+    let mut value = ours::hasher_new();
+    let (mut lent, mut parts) = (value, value);
     let mut theirs = xxhash_rust::xxh3::Xxh3::new();
     let mut rest = Input(all);
     while !rest.0.is_empty() {
@@ -169,8 +170,11 @@ fn hash(i: &mut Input) -> Said {
         value = absorbed.state;
         same("absorb_into", ours::absorb_into(&mut lent, piece), 0)?;
         same("the lent state", lent, value)?;
+        same("absorb_at", ours::absorb_at(&mut parts, piece), 0)?;
+        same("the lent parts", parts, value)?;
         same("the bytes held", holds(&value, &all[..all.len() - rest.0.len()]), true)?;
         same("finish", ours::finish(value), FlatHash { number: 0, hash: theirs.digest() })?;
+        same("finish_at", ours::finish_at(&parts), ours::finish(value))?;
     }
     same("one shot", ours::xxh3_64(all), FlatHash { number: 0, hash: xxhash_rust::xxh3::xxh3_64(all) })?;
     made_up_hasher(value, all)
@@ -190,6 +194,10 @@ fn made_up_hasher(state: FlatHasher, piece: &[u8]) -> Said {
         let finished = ours::finish(made);
         same("22", finished.number, if total > limit { 22 } else { 0 })?;
         same("no sum", total > limit && finished.hash != 0, false)?;
+        same("finish_at", ours::finish_at(&made), finished)?;
+        let mut parts = made;
+        same("21, by parts", ours::absorb_at(&mut parts, piece), absorbed.number)?;
+        same("the lent parts", parts, absorbed.state)?;
         same("21, lent", ours::absorb_into(&mut made, piece), absorbed.number)?;
         same("the lent state", made, absorbed.state)?;
     }

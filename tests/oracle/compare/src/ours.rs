@@ -5,7 +5,7 @@ use answers::{Batch, Call, Decoded, Dialect, Entry, Item, Judge, Reading, Writte
 mod ffi;
 use ffi::{FlatItem, Place};
 pub use ffi::{
-    absorb, absorb_into, body, decode, finish, hasher_new, kept, key, step, value, xxh3_64, Dialect as FlatDialect, FlatCount, FlatEntry,
+    absorb, absorb_at, absorb_into, body, decode, finish, finish_at, hasher_new, kept, key, step, value, xxh3_64, Dialect as FlatDialect, FlatCount, FlatEntry,
     FlatHash, FlatReader, FlatReply, FlatSpan, FlatStepped, FlatWriter, Hasher as FlatHasher,
 };
 
