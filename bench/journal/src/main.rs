@@ -4,7 +4,6 @@ mod clock;
 mod hashing;
 mod heap;
 mod journal;
-#[path = "../../xxh3/src/plain.rs"]
 mod plain;
 
 /// A line of the table: how long ours takes beside theirs.

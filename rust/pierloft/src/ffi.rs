@@ -1,4 +1,4 @@
-//! The static library's functions, made safe. All of this crate's `unsafe` is here. tests/oracle and bench/xxh3 take this file in too, so that
+//! The static library's functions, made safe. All of this crate's `unsafe` is here. tests/oracle takes this file in too, so that
 //! the declarations stand once: it has every function of the library, those among them that this crate doesn't call.
 //!
 //! Why each call is sound. The functions are proved, for every argument, to do nothing undefined, to return, and to write nothing but the
