@@ -129,10 +129,10 @@ typedef struct {
     uint64_t keyspace; /* Item, Clear */
     uint64_t checksum; /* End */
     size_t key_at;     /* Item */
-    size_t key_len;
-    size_t value_at;
-    size_t value_len;
-    size_t next; /* where the entry ends */
+    size_t value_at;   /* Item */
+    size_t next;       /* where the entry ends */
+    size_t key_len;    /* Item */
+    size_t value_len;  /* Item */
 } pierloft_entry;
 
 pierloft_entry pierloft_decode(const uint8_t *image, size_t length, size_t at, pierloft_dialect dialect);

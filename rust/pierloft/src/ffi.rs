@@ -31,10 +31,10 @@ pub struct FlatEntry {
     pub keyspace: u64,
     pub checksum: u64,
     pub key_at: usize,
-    pub key_len: usize,
     pub value_at: usize,
-    pub value_len: usize,
     pub next: usize,
+    pub key_len: usize,
+    pub value_len: usize,
 }
 
 #[repr(C)]
