@@ -10,7 +10,10 @@ use Rattle.stream.proofs.finish_parts.Statement.{statement}
 use Rattle.stream.proofs.finish_parts.Tie as tie
 
 slice-aggregate-hash-of : tie.Need-slice-aggregate-hash-of
-slice-aggregate-hash-of c = let a = c .before .before .before .before .args in let e : length (a .hold .now) ≡ 256 = search needs in sym (length-take-le (a .n) (a .hold .now) (omega arith))
+slice-aggregate-hash-of c =
+    let a = c .before .before .before .before .args in
+    let e : length (a .hold .now) ≡ 256 = search needs in
+    sym (length-take-le (a .n) (a .hold .now) (omega arith))
 
 hash-of-requires : tie.Need-hash-of-requires
 hash-of-requires c κs = search needs
