@@ -15,11 +15,17 @@ use Rattle.stream.proofs.absorb_at.Tie as tie
 
 returns : tie.Need-returns
 unfolding absorbed
-returns c = let a = c .before .before .before .args in let q : limit < a .total .now + length (a .piece .now) = omega arith in rw (lt-leb (a .total .now + length (a .piece .now)) limit q) (refl, refl)
+returns c =
+    let a = c .before .before .before .args in
+    let q : limit < a .total .now + length (a .piece .now) = omega arith in
+    rw (lt-leb (a .total .now + length (a .piece .now)) limit q) (refl, refl)
 
 returns-2 : tie.Need-returns-2
 unfolding absorbed
-returns-2 c = let a = c .before .before .before .before .args in let q : limit < a .total .now + length (a .piece .now) = omega arith in rw (lt-leb (a .total .now + length (a .piece .now)) limit q) (refl, refl)
+returns-2 c =
+    let a = c .before .before .before .before .args in
+    let q : limit < a .total .now + length (a .piece .now) = omega arith in
+    rw (lt-leb (a .total .now + length (a .piece .now)) limit q) (refl, refl)
 
 add-total : tie.Need-add-total
 add-total c = search needs
@@ -32,14 +38,20 @@ fill-requires c κs = search needs
 
 returns-3 : tie.Need-returns-3
 unfolding absorbed
-returns-3 c = let a = c .before .before .before .before .before .before .before .before .args in let q : a .total .now + length (a .piece .now) ≤ limit = omega arith in rw (le-leb (a .total .now + length (a .piece .now)) limit q) (refl, (λ i. state (a .acc .now) (c .fill .ensures i) (a .total .now + length (a .piece .now))) ∙ fits defaultSecret (a .piece .now) (a .acc .now) (a .hold .now) (a .total .now) (omega arith))
+returns-3 c =
+    let a = c .before .before .before .before .before .before .before .before .args in
+    let q : a .total .now + length (a .piece .now) ≤ limit = omega arith in
+    rw (le-leb (a .total .now + length (a .piece .now)) limit q) (refl, (λ i. state (a .acc .now) (c .fill .ensures i) (a .total .now + length (a .piece .now))) ∙ fits defaultSecret (a .piece .now) (a .acc .now) (a .hold .now) (a .total .now) (omega arith))
 
 over-default-requires : tie.Need-over-default-requires
 over-default-requires c κs = search needs
 
 returns-4 : tie.Need-returns-4
 unfolding absorbed
-returns-4 c = let a = c .before .before .before .before .before .before .before .before .before .args in let q : a .total .now + length (a .piece .now) ≤ limit = omega arith in rw (le-leb (a .total .now + length (a .piece .now)) limit q) (refl, c .over-default .ensures)
+returns-4 c =
+    let a = c .before .before .before .before .before .before .before .before .before .args in
+    let q : a .total .now + length (a .piece .now) ≤ limit = omega arith in
+    rw (le-leb (a .total .now + length (a .piece .now)) limit q) (refl, c .over-default .ensures)
 
 pub absorb-at-spec : {M : Type 1} → statement M
 absorb-at-spec =

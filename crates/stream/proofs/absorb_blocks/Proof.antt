@@ -21,7 +21,9 @@ fill-requires : tie.Need-fill-requires
 fill-requires c κs = search needs
 
 returns : tie.Need-returns
-returns c = let a = c .before .before .before .before .before .before .before .before .args in only (a .k .now) (a .p .now) (a .acc .now) (a .hold .now) (a .n) (c .before .before .before .consume .last .1 .0) (c .fill .last .0) (search needs) (search needs) (omega arith) (c .before .before .before .consume .ensures .0) (c .fill .ensures)
+returns c =
+    let a = c .before .before .before .before .before .before .before .before .args in
+    only (a .k .now) (a .p .now) (a .acc .now) (a .hold .now) (a .n) (c .before .before .before .consume .last .1 .0) (c .fill .last .0) (search needs) (search needs) (omega arith) (c .before .before .before .consume .ensures .0) (c .fill .ensures)
 
 accumulate-into-requires : tie.Need-accumulate-into-requires
 accumulate-into-requires c κs = search needs
@@ -54,7 +56,13 @@ fill-requires-3 : tie.Need-fill-requires-3
 fill-requires-3 c κs = search needs
 
 returns-2 : tie.Need-returns-2
-returns-2 c = let a = c .before .before .before .before .before .before .before .before .before .before .before .before .before .before .args in run-parts (a .k .now) (a .p .now) (a .acc .now) (a .hold .now) (a .n) (search needs) (c .before .before .before .before .before .before .before .before .before .consume .ensures .1) ((length (a .p .now) - 1) / 256 * 256) (c .before .before .before .before .before .before .before .before .before .consume .last .1 .0) (c .before .before .before .before .before .before .accumulate-into .last .1 .1 .1 .1 .1 .0) (c .before .before .before .fill2 .last .0) (c .fill3 .last .0) refl (omega arith) (c .before .before .before .before .before .before .before .before .before .consume .ensures .0) (c .before .before .before .before .before .before .accumulate-into .ensures) (c .before .before .before .fill2 .ensures) (c .fill3 .ensures)
+returns-2 c =
+    let a = c .before .before .before .before .before .before .before .before .before .before .before .before .before .before .args in
+    let first = c .before .before .before .before .before .before .before .before .before .consume in
+    let blocks = c .before .before .before .before .before .before .accumulate-into in
+    let kept = c .before .before .before .fill2 in
+    run-parts (a .k .now) (a .p .now) (a .acc .now) (a .hold .now) (a .n) (search needs) (first .ensures .1) ((length (a .p .now) - 1) / 256 * 256)
+    (first .last .1 .0) (blocks .last .1 .1 .1 .1 .1 .0) (kept .last .0) (c .fill3 .last .0) refl (omega arith) (first .ensures .0) (blocks .ensures) (kept .ensures) (c .fill3 .ensures)
 
 pub absorb-blocks-spec : {M : Type 1} → statement M
 absorb-blocks-spec =

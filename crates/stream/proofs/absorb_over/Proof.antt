@@ -12,10 +12,15 @@ room-requires : tie.Need-room-requires
 room-requires c κs = search needs
 
 slice-aggregate-fill : tie.Need-slice-aggregate-fill
-slice-aggregate-fill c = let a = c .before .before .before .before .before .args in sym (length-take-le (c .before .before .room .result) (a .p .now) (omega arith))
+slice-aggregate-fill c =
+    let a = c .before .before .before .before .before .args in
+    sym (length-take-le (c .before .before .room .result) (a .p .now) (omega arith))
 
 fill-requires : tie.Need-fill-requires
-fill-requires c κs = let a = c .before .before .before .before .before .args in let t : length (take (c .before .before .room .result) (a .p .now)) ≡ c .before .before .room .result = length-take-le (c .before .before .room .result) (a .p .now) (omega arith) in omega arith
+fill-requires c κs =
+    let a = c .before .before .before .before .before .args in
+    let t : length (take (c .before .before .room .result) (a .p .now)) ≡ c .before .before .room .result = length-take-le (c .before .before .room .result) (a .p .now) (omega arith) in
+    omega arith
 
 add-absorb-blocks : tie.Need-add-absorb-blocks
 add-absorb-blocks c = search needs
@@ -33,7 +38,11 @@ absorb-blocks-requires : tie.Need-absorb-blocks-requires
 absorb-blocks-requires c κs = search needs
 
 returns : tie.Need-returns
-returns c = let a = c .before .before .before .before .before .before .before .before .before .before .args in over (a .k .now) (a .p .now) (a .acc .now) (a .hold .now) (a .n) (c .before .before .before .before .before .before .before .room .result) (c .absorb-blocks .last .1 .0) (c .before .before .before .before .fill .last .0) (c .absorb-blocks .last .1 .1 .0) (c .before .before .before .before .before .before .before .room .ensures .0) (omega arith) (c .before .before .before .before .fill .ensures) (c .absorb-blocks .ensures)
+returns c =
+    let a = c .before .before .before .before .before .before .before .before .before .before .args in
+    let m = c .before .before .before .before .before .before .before .room in
+    let r = c .absorb-blocks in
+    over (a .k .now) (a .p .now) (a .acc .now) (a .hold .now) (a .n) (m .result) (r .last .1 .0) (c .before .before .before .before .fill .last .0) (r .last .1 .1 .0) (m .ensures .0) (omega arith) (c .before .before .before .before .fill .ensures) (r .ensures)
 
 pub absorb-over-spec : {M : Type 1} → statement M
 absorb-over-spec =

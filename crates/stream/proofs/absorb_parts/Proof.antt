@@ -16,7 +16,9 @@ fill-requires : tie.Need-fill-requires
 fill-requires c κs = search needs
 
 returns : tie.Need-returns
-returns c = let a = c .before .before .before .before .before .before .args in (λ i. state (a .acc .now) (c .fill .ensures i) (a .n + length (a .p .now))) ∙ fits (a .k .now) (a .p .now) (a .acc .now) (a .hold .now) (a .n) (omega arith)
+returns c =
+    let a = c .before .before .before .before .before .before .args in
+    (λ i. state (a .acc .now) (c .fill .ensures i) (a .n + length (a .p .now))) ∙ fits (a .k .now) (a .p .now) (a .acc .now) (a .hold .now) (a .n) (omega arith)
 
 absorb-over-requires : tie.Need-absorb-over-requires
 absorb-over-requires c κs = search needs

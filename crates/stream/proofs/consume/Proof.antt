@@ -15,11 +15,15 @@ accumulate-into-requires c κs = search needs
 
 returns : tie.Need-returns
 unfolding consumed
-returns c = let a = c .before .before .before .before .before .before .args in (rw (eq-eqb (a .n % 256) 0 (c .before .before .before .if1 .taken), ne-eqb (a .n) 0 (λ e. omega arith)) (c .accumulate-into .ensures), search needs)
+returns c =
+    let a = c .before .before .before .before .before .before .args in
+    (rw (eq-eqb (a .n % 256) 0 (c .before .before .before .if1 .taken), ne-eqb (a .n) 0 (λ e. omega arith)) (c .accumulate-into .ensures), search needs)
 
 returns-2 : tie.Need-returns-2
 unfolding consumed
-returns-2 c = let a = c .before .before .before .before .args in (rw (eq-eqb (a .n % 256) 0 (c .before .if1 .taken), eq-eqb (a .n) 0 (omega arith)), search needs)
+returns-2 c =
+    let a = c .before .before .before .before .args in
+    (rw (eq-eqb (a .n % 256) 0 (c .before .if1 .taken), eq-eqb (a .n) 0 (omega arith)), search needs)
 
 returns-3 : tie.Need-returns-3
 unfolding consumed

@@ -17,7 +17,10 @@ unfolding numberOf orSum badTotal finished
 returns c = rw (lt-leb _ _ (c .if1 .taken)) (refl, refl)
 
 slice-aggregate-hash-default : tie.Need-slice-aggregate-hash-default
-slice-aggregate-hash-default c = let a = c .before .before .before .before .args in let e : length (a .hold .now) ≡ 256 = search needs in sym (length-take-le (a .n) (a .hold .now) (omega arith))
+slice-aggregate-hash-default c =
+    let a = c .before .before .before .before .args in
+    let e : length (a .hold .now) ≡ 256 = search needs in
+    sym (length-take-le (a .n) (a .hold .now) (omega arith))
 
 hash-default-requires : tie.Need-hash-default-requires
 hash-default-requires c κs = search needs

@@ -37,7 +37,9 @@ final-merge-requires c κs = search needs
 
 returns : tie.Need-returns
 unfolding ends
-returns c = let a = c .before .before .before .before .before .before .before .before .before .args in rw (lt-leb (a .n) 240 (search needs)) (c .final-merge .ensures ∙ ap (finalMerge (a .k .now) (times (a .n) prime64-1) 11) (c .before .accumulate .ensures ∙ (λ i. accumulate (a .k .now) (c .before .before .before .gathered .ensures i) 0 121 (c .before .before .before .before .accumulate-into .ensures i))))
+returns c =
+    let a = c .before .before .before .before .before .before .before .before .before .args in
+    rw (lt-leb (a .n) 240 (search needs)) (c .final-merge .ensures ∙ ap (finalMerge (a .k .now) (times (a .n) prime64-1) 11) (c .before .accumulate .ensures ∙ (λ i. accumulate (a .k .now) (c .before .before .before .gathered .ensures i) 0 121 (c .before .before .before .before .accumulate-into .ensures i))))
 
 pub finish-large-spec : {M : Type 1} → statement M
 finish-large-spec =

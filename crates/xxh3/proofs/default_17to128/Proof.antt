@@ -32,7 +32,9 @@ avalanche-requires c κs = search needs
 
 returns : tie.Need-returns
 unfolding xxh3-64-17to128
-returns c = let a = c .before .before .before .before .before .before .before .args in cc (four-rounds defaultSecret (a .s .now) (times (length (a .s .now)) prime64-1) (search needs) (search needs))
+returns c =
+    let a = c .before .before .before .before .before .before .before .args in
+    cc (four-rounds defaultSecret (a .s .now) (times (length (a .s .now)) prime64-1) (search needs) (search needs))
 
 pub default-17to128-spec : {M : Type 1} → statement M
 default-17to128-spec =
