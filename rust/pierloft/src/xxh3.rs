@@ -41,11 +41,13 @@ impl Xxh3 {
     /// # Errors
     ///
     /// [`Refusal::TooLong`] where all pieces together would exceed 4,294,967,295 bytes. The piece is then not taken in.
+    #[inline]
     pub fn update(&mut self, piece: &[u8]) -> Result<(), Refusal> {
         Refusal::of(ffi::absorb_at(&mut self.0, piece))
     }
 
     /// The hash of the pieces joined. More pieces may follow.
+    #[inline]
     pub fn digest(&self) -> u64 {
         // refused only where the total is past the limit, and `update` takes no total there
         ffi::finish_at(&self.0).hash
