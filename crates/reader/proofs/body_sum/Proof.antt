@@ -23,7 +23,7 @@ hash-of-requires c κs = search needs
 returns : tie.Need-returns
 returns c =
     let z = c .before .before .before .before .before in
-    c .hash-of .ensures ∙ ap (hash _) (sym (z .pre .6 (c .before .before .if1 .taken)))
+    c .hash-of .ensures ∙ ap (hash _) (sym (z .pre .3 .as-they-stand (c .before .before .if1 .taken)))
 
 sum-anew-requires : tie.Need-sum-anew-requires
 sum-anew-requires c κs = search needs
