@@ -539,7 +539,7 @@ mod tests {
         assert_eq!(size_of::<FlatEntry>(), 80);
         assert_eq!(offset_of!(FlatEntry, value_type), 5);
         assert_eq!(offset_of!(FlatEntry, count), 8);
-        assert_eq!(offset_of!(FlatEntry, next), 72);
+        assert_eq!(offset_of!(FlatEntry, next), 56);
         assert_eq!(size_of::<FlatReader>(), 16);
         assert_eq!(offset_of!(FlatReader, outcome), 12);
         assert_eq!(size_of::<FlatStepped>(), 72);
