@@ -38,7 +38,7 @@ class Count(c.Structure):
 class Entry(c.Structure):
     _fields_ = [('number', c.c_uint32), ('tag', c.c_uint8), ('value_type', c.c_uint8), ('count', c.c_uint64),
                 ('seqno', c.c_uint64), ('keyspace', c.c_uint64), ('checksum', c.c_uint64), ('key_at', c.c_size_t),
-                ('key_len', c.c_size_t), ('value_at', c.c_size_t), ('value_len', c.c_size_t), ('next', c.c_size_t)]
+                ('value_at', c.c_size_t), ('next', c.c_size_t), ('key_len', c.c_size_t), ('value_len', c.c_size_t)]
 
 
 class Hash(c.Structure):
@@ -136,6 +136,7 @@ def first_knows(image, outcome, valid):
         outside = at == valid
         if outside != (entry.tag == 1):
             return 'batch, by the order of entries: 1 torn'
+        assert entry.next > at, 'an entry ends behind its first byte: is the layout here still that of include/pierloft.h?'
         at = entry.next
     return 'batch, by the end of the image: 1 torn'
 
