@@ -8,6 +8,7 @@ The journal has three batches under TEST. A row is one kind of damage; it may st
 """
 import ctypes as c
 import os
+import re
 import subprocess
 import sys
 import tempfile
@@ -17,32 +18,16 @@ PAGE = os.path.join(TOP, 'docs', 'AUDIT.md')
 BEGIN, END = '<!-- table: made by tests/audit.py -->', '<!-- end of table -->'
 
 
-class Dialect(c.Structure):
-    _fields_ = [('magic', c.c_uint8 * 8), ('length', c.c_size_t), ('value', c.c_uint8), ('tombstone', c.c_uint8),
-                ('weak', c.c_uint8), ('indirection', c.c_uint8), ('none', c.c_uint8)]
-
-
-class Reader(c.Structure):
-    _fields_ = [('position', c.c_size_t), ('ended', c.c_uint32), ('outcome', c.c_uint32)]
-
-
-class Stepped(c.Structure):
-    _fields_ = [('number', c.c_uint32), ('accepted', c.c_uint32), ('outcome', c.c_uint32), ('seqno', c.c_uint64),
-                ('count', c.c_uint64), ('body', c.c_size_t), ('end', c.c_size_t), ('next', c.c_size_t), ('reader', Reader)]
-
-
-class Count(c.Structure):
-    _fields_ = [('number', c.c_uint32), ('bytes', c.c_size_t)]
-
-
-class Entry(c.Structure):
-    _fields_ = [('number', c.c_uint32), ('tag', c.c_uint8), ('value_type', c.c_uint8), ('count', c.c_uint64),
-                ('seqno', c.c_uint64), ('keyspace', c.c_uint64), ('checksum', c.c_uint64), ('key_at', c.c_size_t),
-                ('value_at', c.c_size_t), ('next', c.c_size_t), ('key_len', c.c_size_t), ('value_len', c.c_size_t)]
-
-
-class Hash(c.Structure):
-    _fields_ = [('number', c.c_uint32), ('sum', c.c_uint64)]
+def structs():
+    """The structs that include/pierloft.h declares, in its order, by their names there without pierloft_."""
+    with open(os.path.join(TOP, 'include', 'pierloft.h'), encoding='utf-8') as header:
+        text = re.sub(r'/\*.*?\*/', '', header.read(), flags=re.S)
+    types = {'uint8_t': c.c_uint8, 'uint32_t': c.c_uint32, 'uint64_t': c.c_uint64, 'size_t': c.c_size_t}
+    for fields, name in re.findall(r'typedef struct \{(.*?)\} (pierloft_\w+);', text, re.S):
+        members = [(field, types[of] * int(length) if length else types[of])
+                   for of, field, length in re.findall(r'(\w+) (\w+)(?:\[(\d+)\])?;', fields)]
+        types[name] = type(name, (c.Structure,), {'_fields_': members})
+    return {name[len('pierloft_'):]: of for name, of in types.items() if name.startswith('pierloft_')}
 
 
 def library():
@@ -52,18 +37,20 @@ def library():
     shared = os.path.join(tempfile.mkdtemp(), 'pierloft.so')
     subprocess.run(['cc', '-shared', '-o', shared, '-Wl,--whole-archive', archive, '-Wl,--no-whole-archive'], check=True)
     lib = c.CDLL(shared)
-    lib.pierloft_test.restype = Dialect
-    lib.pierloft_step.restype = Stepped
-    lib.pierloft_step.argtypes = [c.c_char_p, c.c_size_t, Reader, Dialect]
-    lib.pierloft_kept.restype = Count
-    lib.pierloft_kept.argtypes = [c.c_size_t, Reader]
-    lib.pierloft_decode.restype = Entry
-    lib.pierloft_decode.argtypes = [c.c_char_p, c.c_size_t, c.c_size_t, Dialect]
-    lib.pierloft_xxh3_64.restype = Hash
+    dialect, reader = STRUCTS['dialect'], STRUCTS['reader']
+    lib.pierloft_test.restype = dialect
+    lib.pierloft_step.restype = STRUCTS['stepped']
+    lib.pierloft_step.argtypes = [c.c_char_p, c.c_size_t, reader, dialect]
+    lib.pierloft_kept.restype = STRUCTS['count']
+    lib.pierloft_kept.argtypes = [c.c_size_t, reader]
+    lib.pierloft_decode.restype = STRUCTS['entry']
+    lib.pierloft_decode.argtypes = [c.c_char_p, c.c_size_t, c.c_size_t, dialect]
+    lib.pierloft_xxh3_64.restype = STRUCTS['hash']
     lib.pierloft_xxh3_64.argtypes = [c.c_char_p, c.c_size_t]
     return lib
 
 
+STRUCTS = structs()
 LIB = library()
 TEST = LIB.pierloft_test()
 MAGIC = bytes(TEST.magic[:TEST.length])
@@ -89,7 +76,7 @@ def clear(keyspace):
 
 def end(*entries):
     body = b''.join(entries)
-    return b'\x03' + le(LIB.pierloft_xxh3_64(body, len(body)).sum, 8) + MAGIC
+    return b'\x03' + le(LIB.pierloft_xxh3_64(body, len(body)).hash, 8) + MAGIC
 
 
 def batch(seqno, *entries, count=None):
@@ -107,7 +94,7 @@ FAULTS = {30: 'INCOMPLETE', 31: 'TAG', 32: 'VALUE TYPE', 33: 'COMPRESSION', 34: 
 
 def read(image):
     """What the steps give: the batches (seqno, start), the outcome, the last valid position and the bytes to keep."""
-    batches, state = [], Reader(0, 0, 0)
+    batches, state = [], STRUCTS['reader'](0, 0, 0)
     while True:
         at = state.position
         step = LIB.pierloft_step(image, len(image), state, TEST)
@@ -136,7 +123,7 @@ def first_knows(image, outcome, valid):
         outside = at == valid
         if outside != (entry.tag == 1):
             return 'batch, by the order of entries: 1 torn'
-        assert entry.next > at, 'an entry ends behind its first byte: is the layout here still that of include/pierloft.h?'
+        assert entry.next > at, 'an entry ends behind its first byte'
         at = entry.next
     return 'batch, by the end of the image: 1 torn'
 

@@ -1,5 +1,6 @@
 // The values of the other crates as what crosses to C: structs of numbers. An enum becomes a number and the fields of all its variants, a
-// flag 0 or not. Public: the structs; `flat_*`, from a call's answer; `*_of`, from what C hands over; `is_type`, `refused_*`, `span`.
+// flag 0 or not. For crate pierloft: the structs; `flat_*`, from a call's answer; `*_of`, from what C hands over; `is_type`, `refused_*`, `span`. None is
+// a public call.
 ghost use mathlib.Core.Path.{_≡_};
 ghost use mathlib.Core.Bool.{cond};
 ghost use Prim.Native.Nat.{_≤_};
@@ -324,7 +325,7 @@ pub fn flat_keep(k: Keep) -> FlatCount
 
 // ---- views
 
-// Assumes that it does not end before it begins.
+// A helper of the exported views, no public call: it assumes that the part does not end before it begins.
 pub fn span(number: u32, from: usize, to: usize) -> FlatSpan
     requires { ⌜ from ≤ to ⌝ }
     ensures { λ r. ⌜ r ≡ spanOf number from to ⌝ }

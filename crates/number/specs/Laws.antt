@@ -1,6 +1,6 @@
 -- Laws of numbers in bytes, over the width where it is any.
 use Prim.Native.Nat.{ℕ, zero, suc, _+_, _*_, _/_, _%_, _^_, _≤_, _<_}
-use mathlib.Core.Path.{_≡_, refl, ap}
+use mathlib.Core.Path.{_≡_, refl, ap, _∙_}
 use mathlib.Core.List.{List, [], _∷_}
 use native.Mathlib.Omega.{arith}
 use native.Mathlib.Nat.{add-zero, add-assoc, zero-add, mul-left-comm, mul-add, pow-succ'}
@@ -24,16 +24,19 @@ le8 s i = simp (add-zero, add-assoc) (omega arith)
 
 -- ---- a number and its bytes
 
-part : (m n : ℕ) (s : List ℕ) (i : ℕ) → n ≤ m → le n (take m (drop i s)) 0 ≡ le n s i
+le-take : (m n : ℕ) (s : List ℕ) → n ≤ m → le n (take m s) 0 ≡ le n s 0
 unfolding le
-part m zero s i h = refl
-part m (suc n) s i h =
-    let e : 0 + n ≡ n = omega arith in
-    rw (part m n s i (omega arith), e, getD-take m (drop i s) n 0 (omega arith), getD-drop i s n 0)
+le-take m zero s h = refl
+le-take m (suc n) s h = rw (le-take m n s (omega arith), zero-add n, getD-take m s n 0 (omega arith))
+
+le-drop : (n : ℕ) (s : List ℕ) (i : ℕ) → le n (drop i s) 0 ≡ le n s i
+unfolding le
+le-drop zero s i = refl
+le-drop (suc n) s i = rw (le-drop n s i, zero-add n, getD-drop i s n 0)
 
 -- the number at i is that of the n bytes that stand at i
 pub le-part : (n : ℕ) (s : List ℕ) (i : ℕ) → le n (take n (drop i s)) 0 ≡ le n s i
-le-part n s i = part n n s i (omega arith)
+le-part n s i = le-take n n (drop i s) (omega arith) ∙ le-drop n s i
 
 -- the lowest byte comes first
 pub le-cons : (n b : ℕ) (s : List ℕ) → le (suc n) (b ∷ s) 0 ≡ b + 256 * le n s 0
@@ -54,11 +57,6 @@ pub le-bytes : (n x : ℕ) → x < 256 ^ n → le n (bytes n x) 0 ≡ x
 unfolding bytes
 le-bytes zero x h = unfold le in omega arith
 le-bytes (suc n) x h = rw (le-cons n (x % 256) (bytes n (x / 256)), le-bytes n (x / 256) (omega arith)) (omega arith)
-
-le-drop : (n : ℕ) (s : List ℕ) (i : ℕ) → le n (drop i s) 0 ≡ le n s i
-unfolding le
-le-drop zero s i = refl
-le-drop (suc n) s i = rw (le-drop n s i, zero-add n, getD-drop i s n 0)
 
 -- every element is a byte
 abbrev pub Octets : List ℕ → Type 0

@@ -164,7 +164,8 @@ fn inside(start: usize, left: u64, at: usize, size: usize) -> Reply
     }
 }
 
-// `size` bytes were written at `at` and leave no batch open. Assumes that they end within the limit.
+// `size` bytes were written at `at` and leave no batch open. A helper of crate one_entry too, no public call: it assumes that they
+// end within the limit.
 pub fn outside(at: usize, size: usize) -> Reply
     requires { ⌜ at + size ≤ limit ⌝ }
     ensures { λ r. ⌜ r ≡ outsideReply at size ⌝ }

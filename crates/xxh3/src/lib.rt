@@ -414,7 +414,7 @@ fn accumulate_lane(k: &[u8], s: &[u8], i: usize, j: usize, acc: u64, n: usize, o
     add64(add64(acc, word(s, i + 8 * o)), halves(value))
 }
 
-// Assumes a stripe at i of s and 64 bytes at j of the secret.
+// A helper of crate stream too: it assumes a stripe at i of s and 64 bytes at j of the secret.
 pub fn accumulate(k: &[u8], s: &[u8], i: usize, j: usize, a: [u64; 8]) -> [u64; 8]
     requires { ⌜ (i + 64 ≤ length (now s)) × (j + 64 ≤ length (now k)) ⌝ }
     ensures { λ r. ⌜ r ≡ accumulate (now (k .entry)) (now (s .entry)) i j a ⌝ }
@@ -465,8 +465,8 @@ fn block_end(k: &[u8], t: usize, a: [u64; 8]) -> [u64; 8]
     }
 }
 
-// m stripes of s from i on, the first of which is the stripe t of the input, into lent accumulators. Assumes that they
-// are there, and that the input's stripes can be counted.
+// m stripes of s from i on, the first of which is the stripe t of the input, into lent accumulators. A helper of
+// crate stream too: it assumes that they are there, and that the input's stripes can be counted.
 pub fn accumulate_into(k: &[u8], s: &[u8], m: usize, i: usize, t: usize, a: &mut [u64; 8])
     requires { ⌜ (length (now k) ≡ 192) × (i + m * 64 ≤ length (now s)) × (t + m < 0x800_0000_0000_0000) ⌝ }
     ensures { λ _. ⌜ now (a .exit) ≡ stripes (now (k .entry)) (now (s .entry)) m i t (now (a .entry)) ⌝ }
@@ -491,7 +491,8 @@ fn merge_pair(k: &[u8], j: usize, x: u64, y: u64) -> u64
     fold64(x ^ read_u64_le(k, j), y ^ read_u64_le(k, j + 8))
 }
 
-// The hash of a large input of n bytes, from its accumulators. Assumes a secret of 192 bytes.
+// The hash of a large input of n bytes, from its accumulators. A helper of crate stream too: it assumes a
+// secret of 192 bytes.
 pub fn final_merge(k: &[u8], n: u64, a: [u64; 8]) -> u64
     requires { ⌜ length (now k) ≡ 192 ⌝ }
     ensures { λ r. ⌜ r ≡ finalMerge (now (k .entry)) (times n prime64-1) 11 a ⌝ }
@@ -532,7 +533,8 @@ fn xxh3_64_small(k: &[u8], s: &[u8]) -> u64
     xxh3_64_9to16(k, s)
 }
 
-// For callers that know their length to be within the limit: it refuses nothing. Assumes a secret of 192 bytes.
+// A helper of the layers above, which know their length to be within the limit, no public call: it refuses nothing, and
+// assumes a secret of 192 bytes.
 pub fn hash_of(k: &[u8], s: &[u8]) -> u64
     requires { ⌜ length (now k) ≡ 192 ⌝ }
     ensures { λ r. ⌜ r ≡ hash (now (k .entry)) (now (s .entry)) ⌝ }

@@ -343,6 +343,14 @@ pub struct FlatItem<'a> {
     pub value: &'a [u8],
 }
 
+/// A call whose last arguments are an item's parts.
+macro_rules! with_item {
+    ($call:ident, $item:ident, $($first:expr),*) => {{
+        let FlatItem { value_type, keyspace, key, value } = $item;
+        unsafe { c::$call($($first,)* value_type, keyspace, key.as_ptr(), key.len(), value.as_ptr(), value.len()) }
+    }};
+}
+
 #[inline]
 pub fn encode_start(buf: &mut [u8], dialect: Dialect, count: u32, seqno: u64) -> FlatCount {
     unsafe { c::pierloft_encode_start(buf.as_mut_ptr(), buf.len(), dialect, count, seqno) }
@@ -350,19 +358,7 @@ pub fn encode_start(buf: &mut [u8], dialect: Dialect, count: u32, seqno: u64) ->
 
 #[inline]
 pub fn encode_item(buf: &mut [u8], dialect: Dialect, item: FlatItem<'_>) -> FlatCount {
-    unsafe {
-        c::pierloft_encode_item(
-            buf.as_mut_ptr(),
-            buf.len(),
-            dialect,
-            item.value_type,
-            item.keyspace,
-            item.key.as_ptr(),
-            item.key.len(),
-            item.value.as_ptr(),
-            item.value.len(),
-        )
-    }
+    with_item!(pierloft_encode_item, item, buf.as_mut_ptr(), buf.len(), dialect)
 }
 
 #[inline]
@@ -390,20 +386,8 @@ pub fn open(to: Place<'_>, count: u64, seqno: u64) -> FlatReply {
 
 #[inline]
 pub fn put_item(to: Place<'_>, item: FlatItem<'_>) -> FlatReply {
-    unsafe {
-        c::pierloft_put_item(
-            to.buf.as_mut_ptr(),
-            to.buf.len(),
-            to.dialect,
-            to.writer,
-            item.value_type,
-            item.keyspace,
-            item.key.as_ptr(),
-            item.key.len(),
-            item.value.as_ptr(),
-            item.value.len(),
-        )
-    }
+    let (buf, length) = (to.buf.as_mut_ptr(), to.buf.len());
+    with_item!(pierloft_put_item, item, buf, length, to.dialect, to.writer)
 }
 
 #[inline]
@@ -420,21 +404,8 @@ pub fn close(to: Place<'_>) -> FlatReply {
 
 #[inline]
 pub fn write_raw(to: Place<'_>, seqno: u64, item: FlatItem<'_>) -> FlatReply {
-    unsafe {
-        c::pierloft_write_raw(
-            to.buf.as_mut_ptr(),
-            to.buf.len(),
-            to.dialect,
-            to.writer,
-            seqno,
-            item.value_type,
-            item.keyspace,
-            item.key.as_ptr(),
-            item.key.len(),
-            item.value.as_ptr(),
-            item.value.len(),
-        )
-    }
+    let (buf, length) = (to.buf.as_mut_ptr(), to.buf.len());
+    with_item!(pierloft_write_raw, item, buf, length, to.dialect, to.writer, seqno)
 }
 
 #[inline]

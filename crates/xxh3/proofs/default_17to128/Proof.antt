@@ -3,7 +3,7 @@ use mathlib.Core.Path.{refl}
 use lib.ListN.{length}
 use Rattle.number.specs.Number.{le, times}
 use Rattle.xxh3.specs.Xxh3.{defaultSecret, prime64-1, xxh3-64-17to128}
-use Rattle.xxh3.specs.Rounds.{four-rounds}
+use Rattle.xxh3.proofs.Rounds.{four-rounds}
 use borrow.Author.Needs.{needs}
 use Rattle.xxh3.proofs.default_17to128.Statement.{statement}
 use Rattle.xxh3.proofs.default_17to128.Tie as tie
