@@ -40,6 +40,16 @@ use flat::writer_of;
 use stream::Absorbed;
 use stream::Hasher;
 
+// ---- the layout of the structs
+
+// Its name is the promise: header and archive of different layouts don't link. The number rises with each change of a struct.
+#[no_mangle]
+pub extern "C" fn pierloft_abi_1() -> u32
+    ensures { λ r. ⌜ r ≡ 1 ⌝ }
+{
+    1
+}
+
 // ---- dialects
 
 #[no_mangle]
