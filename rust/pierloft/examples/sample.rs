@@ -26,7 +26,7 @@ const fn item<'a>(
 
 /// A morning on the claims bus. The power fails while the last batch is written.
 pub fn claims() -> Result<Vec<u8>, Refusal> {
-    use ValueType::{Indirection, Tombstone, Value, WeakTombstone};
+    use ValueType::{Tombstone, Value, WeakTombstone};
     let mut buffer = [0; 1024];
     let mut bus = Writer::new(&mut buffer, Dialect::SHIPPED);
 
@@ -37,12 +37,11 @@ pub fn claims() -> Result<Vec<u8>, Refusal> {
     bus.put_item(Value, RESERVES, b"C-2081", b"EUR 18500")?;
     bus.close()?;
 
-    // photos that lie elsewhere, at place 8,192; a reserve that nobody has set yet
-    let place = 8192u32.to_le_bytes();
+    // a photo of the roof; a reserve that nobody has set yet
     bus.batch(
         4102,
         &[
-            item(PHOTOS, Indirection, b"C-2082", &place),
+            item(PHOTOS, Value, b"C-2082", b"roof"),
             item(RESERVES, Value, b"C-2082", b""),
         ],
     )?;

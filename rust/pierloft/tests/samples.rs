@@ -7,24 +7,26 @@ mod sample;
 const CLAIMS: &[u8] = include_bytes!("../../../samples/claims.jnl");
 const TEST: &[u8] = include_bytes!("../../../samples/test.jnl");
 
+const TYPES: [ValueType; 4] = [
+    ValueType::Value,
+    ValueType::Tombstone,
+    ValueType::WeakTombstone,
+    ValueType::Indirection,
+];
+
 #[test]
 fn are_as_made() {
     assert_eq!(sample::claims().as_deref(), Ok(CLAIMS));
     assert_eq!(sample::test().as_deref(), Ok(TEST));
 }
 
-/// Several batches, items of the four types, a Clear, an empty value; torn at the end.
-fn holds_all(image: &[u8], dialect: Dialect) {
+/// Several batches, items of these types and no other, a Clear, an empty value; torn at the end.
+fn holds(image: &[u8], dialect: Dialect, types: &[ValueType]) {
     let mut journal = batches(image, dialect);
     let entries: Vec<Entry> = journal.by_ref().flatten().collect();
-    for wanted in [
-        ValueType::Value,
-        ValueType::Tombstone,
-        ValueType::WeakTombstone,
-        ValueType::Indirection,
-    ] {
-        let is = |e: &Entry| matches!(e, Entry::Item { value_type, .. } if *value_type == wanted);
-        assert!(entries.iter().any(is), "no {wanted}");
+    for one in TYPES {
+        let is = |e: &Entry| matches!(e, Entry::Item { value_type, .. } if *value_type == one);
+        assert_eq!(entries.iter().any(is), types.contains(&one), "{one}");
     }
     assert!(entries.iter().any(|e| matches!(
         e,
@@ -36,8 +38,9 @@ fn holds_all(image: &[u8], dialect: Dialect) {
     assert!(journal.kept().unwrap() < image.len());
 }
 
+/// No Indirection among the claims: fjall's recovery of a sealed journal panics at one.
 #[test]
 fn hold_every_kind_of_entry() {
-    holds_all(CLAIMS, Dialect::SHIPPED);
-    holds_all(TEST, Dialect::TEST);
+    holds(CLAIMS, Dialect::SHIPPED, &TYPES[..3]);
+    holds(TEST, Dialect::TEST, &TYPES);
 }
