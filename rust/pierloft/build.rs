@@ -8,8 +8,9 @@ const ARCHIVE: &str = "libpierloft.a";
 
 fn main() {
     println!("cargo:rerun-if-env-changed=PIERLOFT_LIB_DIR");
+    look_at_the_target();
     let folder = match std::env::var_os("PIERLOFT_LIB_DIR") {
-        Some(folder) => PathBuf::from(folder),
+        Some(folder) => workspace().join(folder),
         None => built(),
     };
     let archive = folder.join(ARCHIVE);
@@ -21,9 +22,46 @@ fn main() {
     println!("cargo:rustc-link-lib=static=pierloft");
 }
 
+fn from_cargo(name: &str) -> String {
+    std::env::var(name).unwrap_or_default()
+}
+
+/// Code for another machine, or for another calling convention or file format, would link with nothing or be called wrongly.
+fn look_at_the_target() {
+    let machine = (
+        from_cargo("CARGO_CFG_TARGET_ARCH"),
+        from_cargo("CARGO_CFG_TARGET_POINTER_WIDTH"),
+    );
+    let system = from_cargo("CARGO_CFG_TARGET_OS");
+    let foreign = from_cargo("CARGO_CFG_TARGET_VENDOR") == "apple"
+        || ["windows", "uefi", "cygwin"].contains(&&*system);
+    if machine != ("x86_64".into(), "64".into()) || foreign {
+        fail(&format!(
+            "the library is there for x86-64 alone (64-bit pointers, ELF, the System V calling convention), and this build is for {}",
+            from_cargo("TARGET")
+        ));
+    }
+}
+
+/// Where a relative PIERLOFT_LIB_DIR counts from: the folder with Cargo.lock above the build's output, which is the workspace's unless its
+/// output lies elsewhere; else above this crate.
+fn workspace() -> PathBuf {
+    let above = |name| {
+        let from = PathBuf::from(from_cargo(name));
+        let found = from
+            .ancestors()
+            .find(|folder| folder.join("Cargo.lock").is_file());
+        found.map(Path::to_path_buf)
+    };
+    let here = || PathBuf::from(from_cargo("CARGO_MANIFEST_DIR"));
+    above("OUT_DIR")
+        .or_else(|| above("CARGO_MANIFEST_DIR"))
+        .unwrap_or_else(here)
+}
+
 /// The repository's own folder, with the library in it.
 fn built() -> PathBuf {
-    let here = PathBuf::from(std::env::var_os("CARGO_MANIFEST_DIR").expect("cargo sets it"));
+    let here = PathBuf::from(from_cargo("CARGO_MANIFEST_DIR"));
     let Some(top) = here
         .ancestors()
         .nth(2)
