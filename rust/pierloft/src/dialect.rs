@@ -114,7 +114,8 @@ pub enum ValueType {
 }
 
 impl ValueType {
-    pub(crate) const ALL: [ValueType; 4] = [
+    /// The four, in the order that [`Dialect::types`] has their codes in.
+    pub const ALL: [ValueType; 4] = [
         ValueType::Value,
         ValueType::Tombstone,
         ValueType::WeakTombstone,

@@ -2,7 +2,7 @@ use crate::ffi::{self, FlatItem};
 use crate::{Dialect, Refusal, ValueType};
 use core::fmt;
 
-/// What `Debug` shows of bytes: how many. What a key or a value says is nobody's business but the reader's.
+/// What `Debug` shows of bytes: how many, and not which. They may be somebody's claim, and `Debug` ends in logs.
 pub(crate) struct Bytes(pub usize);
 
 impl fmt::Debug for Bytes {
@@ -36,7 +36,7 @@ impl<'a> Item<'a> {
     }
 }
 
-/// Shows the lengths of key and value and not their bytes, which may be somebody's claim.
+/// Shows the lengths of key and value and not their bytes.
 impl fmt::Debug for Item<'_> {
     fn fmt(&self, f: &mut fmt::Formatter<'_>) -> fmt::Result {
         f.debug_struct("Item")

@@ -1,18 +1,11 @@
 //! The files in samples/ are what examples/sample.rs makes, and examples/dump.rs lists them.
-use pierloft::{batches, Dialect, Entry, Outcome, ValueType};
+use pierloft::{batches, Dialect, Item, Outcome, ValueType};
 
 #[path = "../examples/sample.rs"]
 mod sample;
 
 const CLAIMS: &[u8] = include_bytes!("../../../samples/claims.jnl");
 const TEST: &[u8] = include_bytes!("../../../samples/test.jnl");
-
-const TYPES: [ValueType; 4] = [
-    ValueType::Value,
-    ValueType::Tombstone,
-    ValueType::WeakTombstone,
-    ValueType::Indirection,
-];
 
 #[test]
 fn are_as_made() {
@@ -23,17 +16,16 @@ fn are_as_made() {
 /// Several batches, items of these types and no other, a Clear, an empty value; torn at the end.
 fn holds(image: &[u8], dialect: Dialect, types: &[ValueType]) {
     let mut journal = batches(image, dialect);
-    let entries: Vec<Entry> = journal.by_ref().flatten().collect();
-    for one in TYPES {
-        let is = |e: &Entry| matches!(e, Entry::Item { value_type, .. } if *value_type == one);
-        assert_eq!(entries.iter().any(is), types.contains(&one), "{one}");
+    let batches: Vec<_> = journal.by_ref().map(Result::unwrap).collect();
+    let items: Vec<Item> = batches.iter().flat_map(|batch| batch.items()).collect();
+    for one in ValueType::ALL {
+        let is = |item: &Item| item.value_type == one;
+        assert_eq!(items.iter().any(is), types.contains(&one), "{one}");
     }
-    assert!(entries.iter().any(|e| matches!(
-        e,
-        Entry::Item { value_type: ValueType::Value, value, .. } if value.is_empty()
-    )));
-    assert!(entries.iter().any(|e| matches!(e, Entry::Clear { .. })));
-    assert!(batches(image, dialect).count() >= 3);
+    let empty = |item: &Item| item.value_type == ValueType::Value && item.value.is_empty();
+    assert!(items.iter().any(empty));
+    assert!(batches.iter().any(|batch| batch.clears().count() > 0));
+    assert!(batches.len() >= 3);
     assert_eq!(journal.outcome(), Ok(Outcome::Torn));
     assert!(journal.kept().unwrap() < image.len());
 }
@@ -41,6 +33,6 @@ fn holds(image: &[u8], dialect: Dialect, types: &[ValueType]) {
 /// No Indirection among the claims: fjall's recovery of a sealed journal panics at one.
 #[test]
 fn hold_every_kind_of_entry() {
-    holds(CLAIMS, Dialect::SHIPPED, &TYPES[..3]);
-    holds(TEST, Dialect::TEST, &TYPES);
+    holds(CLAIMS, Dialect::SHIPPED, &ValueType::ALL[..3]);
+    holds(TEST, Dialect::TEST, &ValueType::ALL);
 }
