@@ -4,6 +4,9 @@ use pierloft::{
     Refusal, ValueType, Writer,
 };
 
+mod damage;
+use damage::{damages, start, CLEAR, END};
+
 /// Under TEST, a batch of seqno 7 with one value in keyspace 2, key `a`, value `xy`: 50 bytes; and three zeros behind it.
 const IMAGE: [u8; 53] = [
     1, 1, 0, 0, 0, 7, 0, 0, 0, 0, 0, 0, 0, // Start
@@ -18,29 +21,6 @@ const ITEM: Item = Item {
     value: b"xy",
     value_type: ValueType::Value,
 };
-
-fn start(count: u8) -> [u8; 13] {
-    [1, count, 0, 0, 0, 7, 0, 0, 0, 0, 0, 0, 0]
-}
-
-const CLEAR: [u8; 9] = [4, 2, 0, 0, 0, 0, 0, 0, 0];
-/// With a checksum of 0, which no entries have.
-const END: [u8; 13] = [3, 0, 0, 0, 0, 0, 0, 0, 0, 0x4a, 0x4c, 0x31, 1];
-
-/// A batch of each kind of damage that is no crash, with the error that it is when it begins at a position.
-fn damages() -> [(Vec<u8>, fn(usize) -> ReadError); 3] {
-    [
-        ([&start(1)[..], &END].concat(), |at| {
-            ReadError::Insufficient { at }
-        }),
-        ([&start(0)[..], &CLEAR].concat(), |at| ReadError::TooMany {
-            at,
-        }),
-        ([&start(0)[..], &END].concat(), |at| ReadError::Mismatch {
-            at,
-        }),
-    ]
-}
 
 /// Outcome, last valid position and bytes to keep, of an image that shows no batch.
 fn ends(image: &[u8]) -> (Outcome, usize, usize) {
@@ -102,7 +82,7 @@ fn the_table_of_document_01() {
     assert_eq!(ends(&[]), (Outcome::Clean, 0, 0));
     assert_eq!(ends(&[0]), (Outcome::Torn, 0, 0));
     assert_eq!(ends(&start(1)), (Outcome::Torn, 0, 0));
-    let [(p7, _), (p10, _), (mismatch, _)] = damages();
+    let [(p7, _), (p10, _), (mismatch, _)] = damages(0);
     assert_eq!(ends(&p7), (Outcome::Insufficient, 0, 26));
     let p8 = [start(1), start(1)].concat();
     assert_eq!(ends(&p8), (Outcome::Torn, 0, 0));
@@ -277,23 +257,25 @@ fn seqnos(image: &[u8]) -> Result<Vec<u64>, ReadError> {
 fn damage_is_an_error() {
     assert_eq!(seqnos(&IMAGE), Ok(vec![7]), "torn is no error");
     assert_eq!(seqnos(&IMAGE[..50]), Ok(vec![7]), "nor is clean");
-    for (damage, error) in damages() {
+    for (damage, error) in damages(50) {
         let image = [&IMAGE[..50], &damage].concat();
-        assert_eq!(seqnos(&image), Err(error(50)));
-        assert_eq!(seqnos(&damage), Err(error(0)));
+        assert_eq!(seqnos(&image), Err(error));
 
         let mut journal = batches(&image, Dialect::TEST);
         assert_eq!(journal.next().unwrap().unwrap().seqno(), 7);
-        assert_eq!(journal.next().unwrap().unwrap_err(), error(50));
+        assert_eq!(journal.next().unwrap().unwrap_err(), error);
         assert!(journal.next().is_none(), "one error, once");
-        assert_eq!(journal.outcome().ok(), error(50).outcome());
+        assert_eq!(journal.outcome().ok(), error.outcome());
         assert_eq!(journal.valid(), 50);
         assert_eq!(journal.kept(), Ok(image.len()), "all is to be kept");
 
         // who asks for the outcome has been told, and the iteration is over
         let mut journal = batches(&image, Dialect::TEST);
-        assert_eq!(journal.outcome().ok(), error(50).outcome());
+        assert_eq!(journal.outcome().ok(), error.outcome());
         assert!(journal.next().is_none());
+    }
+    for (damage, error) in damages(0) {
+        assert_eq!(seqnos(&damage), Err(error));
     }
 }
 

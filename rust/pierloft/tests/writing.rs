@@ -4,6 +4,8 @@ use pierloft::{
     ValueType, Writer, WriterState,
 };
 
+mod damage;
+
 const V: ValueType = ValueType::Value;
 
 const fn item<'a>(keyspace: u64, key: &'a [u8], value: &'a [u8]) -> Entry<'a> {
@@ -433,18 +435,8 @@ fn going_on() {
 /// Outcomes 2 to 4 are for a person to look at, and a buffer that is too long is not read: no writer, and no byte changed.
 #[test]
 fn not_going_on() {
-    let start = |count: u8| [1, count, 0, 0, 0, 7, 0, 0, 0, 0, 0, 0, 0];
-    let clear = [4, 2, 0, 0, 0, 0, 0, 0, 0];
-    let end = [3, 0, 0, 0, 0, 0, 0, 0, 0, 0x4a, 0x4c, 0x31, 1];
     let at = 35;
-    for (damage, error) in [
-        (
-            [&start(1)[..], &end].concat(),
-            ReadError::Insufficient { at },
-        ),
-        ([&start(0)[..], &clear].concat(), ReadError::TooMany { at }),
-        ([&start(0)[..], &end].concat(), ReadError::Mismatch { at }),
-    ] {
+    for (damage, error) in damage::damages(at) {
         let mut buffer = [0xee; 100];
         let mut state = WriterState::over_zeros(Dialect::TEST);
         Writer::attach(&mut buffer, &mut state)
