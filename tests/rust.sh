@@ -14,6 +14,7 @@ command -v cargo >/dev/null || {
     say 'not run: no cargo'
     exit 77
 }
+# shellcheck source=tests/package.sh
 . tests/package.sh
 
 cd "$crate" || exit 2
@@ -43,7 +44,7 @@ cargo package --quiet --allow-dirty 2>"$top/target/rust/package.log" || {
     fail 'the package does not build'
 }
 for unpacked in "$top"/target/rust/package/pierloft-*/; do
-    cmp "$unpacked/NOTICE" "$top/NOTICE" && cmp "$unpacked/README.md" "$top/README.md" || fail 'the package lacks a page'
+    for page in NOTICE README.md; do cmp "$unpacked/$page" "$top/$page" || fail "the package lacks $page"; done
 done
 
 # A program of one call, in a workspace of its own, with archives in folders named from there: the library's, and one whose layout has

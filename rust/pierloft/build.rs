@@ -22,23 +22,23 @@ fn main() {
     println!("cargo:rustc-link-lib=static=pierloft");
 }
 
-fn from_cargo(name: &str) -> String {
-    std::env::var(name).unwrap_or_default()
+fn folder(name: &str) -> PathBuf {
+    PathBuf::from(std::env::var_os(name).expect("cargo sets it"))
 }
 
-/// Code for another machine, or for another calling convention or file format, would link with nothing or be called wrongly.
+/// Code for another machine, calling convention or file format would not link, or be called wrongly.
 fn look_at_the_target() {
-    let machine = (
-        from_cargo("CARGO_CFG_TARGET_ARCH"),
-        from_cargo("CARGO_CFG_TARGET_POINTER_WIDTH"),
-    );
-    let system = from_cargo("CARGO_CFG_TARGET_OS");
-    let foreign = from_cargo("CARGO_CFG_TARGET_VENDOR") == "apple"
-        || ["windows", "uefi", "cygwin"].contains(&&*system);
-    if machine != ("x86_64".into(), "64".into()) || foreign {
+    let is = |name: &str, wanted: &str| std::env::var(name).is_ok_and(|value| value == wanted);
+    let machine =
+        is("CARGO_CFG_TARGET_ARCH", "x86_64") && is("CARGO_CFG_TARGET_POINTER_WIDTH", "64");
+    let foreign = is("CARGO_CFG_TARGET_VENDOR", "apple")
+        || ["windows", "uefi", "cygwin"]
+            .iter()
+            .any(|system| is("CARGO_CFG_TARGET_OS", system));
+    if !machine || foreign {
+        let target = std::env::var("TARGET").unwrap_or_default();
         fail(&format!(
-            "the library is there for x86-64 alone (64-bit pointers, ELF, the System V calling convention), and this build is for {}",
-            from_cargo("TARGET")
+            "the library is there for x86-64 alone (64-bit pointers, ELF, the System V calling convention), and this build is for {target}"
         ));
     }
 }
@@ -46,22 +46,15 @@ fn look_at_the_target() {
 /// Where a relative PIERLOFT_LIB_DIR counts from: the folder with Cargo.lock above the build's output, which is the workspace's unless its
 /// output lies elsewhere; else above this crate.
 fn workspace() -> PathBuf {
-    let above = |name| {
-        let from = PathBuf::from(from_cargo(name));
-        let found = from
-            .ancestors()
-            .find(|folder| folder.join("Cargo.lock").is_file());
-        found.map(Path::to_path_buf)
-    };
-    let here = || PathBuf::from(from_cargo("CARGO_MANIFEST_DIR"));
-    above("OUT_DIR")
-        .or_else(|| above("CARGO_MANIFEST_DIR"))
-        .unwrap_or_else(here)
+    let (output, here) = (folder("OUT_DIR"), folder("CARGO_MANIFEST_DIR"));
+    let mut above = output.ancestors().chain(here.ancestors());
+    let found = above.find(|folder| folder.join("Cargo.lock").is_file());
+    found.unwrap_or(&here).to_path_buf()
 }
 
 /// The repository's own folder, with the library in it.
 fn built() -> PathBuf {
-    let here = PathBuf::from(from_cargo("CARGO_MANIFEST_DIR"));
+    let here = folder("CARGO_MANIFEST_DIR");
     let Some(top) = here
         .ancestors()
         .nth(2)

@@ -96,70 +96,51 @@ impl Refusal {
         self.told().1
     }
 
-    /// Number, name, and what is wrong; [`Refusal::NoRoom`] has figures to add.
-    fn told(self) -> (u32, &'static str, &'static str) {
+    fn told(self) -> (u32, &'static str) {
         match self {
-            Refusal::Dialect => (
-                20,
-                "DIALECT",
-                "no magic of 1 to 8 bytes whose last is not 0, or two type codes alike",
-            ),
-            Refusal::TooLong => (21, "TOO LONG", "more than 4,294,967,295 bytes"),
-            Refusal::State => (
-                22,
-                "STATE",
-                "a position lies past the buffer, or the state is out of range",
-            ),
-            Refusal::Count => (23, "COUNT", "a batch of more than 4,294,967,295 entries"),
-            Refusal::Order => (
-                24,
-                "ORDER",
-                "a batch is open that has to be closed first, or none is open",
-            ),
-            Refusal::Key => (
-                25,
-                "KEY",
-                "a key of more than 65,535 bytes, or an empty one in a batch",
-            ),
-            Refusal::Counted => (
-                26,
-                "COUNTED",
-                "the batch has all of its entries, or not yet all",
-            ),
-            Refusal::NoRoom { .. } => (27, "NO ROOM", "the buffer is too short"),
-            Refusal::Incomplete => (30, "INCOMPLETE", "a field of the entry runs past the image"),
-            Refusal::Tag => (31, "TAG", "the entry's tag is not 1 to 4"),
-            Refusal::ValueType => (
-                32,
-                "VALUE TYPE",
-                "the item's type code is none of the dialect's",
-            ),
-            Refusal::Compression => (
-                33,
-                "COMPRESSION",
-                "the item's compression code is not the dialect's",
-            ),
-            Refusal::Trailer => (
-                34,
-                "TRAILER",
-                "the End does not close with the dialect's magic",
-            ),
-            Refusal::NotAnItem => (
-                35,
-                "NOT AN ITEM",
-                "a Start, an End and a Clear have no key and no value",
-            ),
-            Refusal::Unknown(number) => {
-                (number, "UNKNOWN", "a number that this crate does not know")
-            }
+            Refusal::Dialect => (20, "DIALECT"),
+            Refusal::TooLong => (21, "TOO LONG"),
+            Refusal::State => (22, "STATE"),
+            Refusal::Count => (23, "COUNT"),
+            Refusal::Order => (24, "ORDER"),
+            Refusal::Key => (25, "KEY"),
+            Refusal::Counted => (26, "COUNTED"),
+            Refusal::NoRoom { .. } => (27, "NO ROOM"),
+            Refusal::Incomplete => (30, "INCOMPLETE"),
+            Refusal::Tag => (31, "TAG"),
+            Refusal::ValueType => (32, "VALUE TYPE"),
+            Refusal::Compression => (33, "COMPRESSION"),
+            Refusal::Trailer => (34, "TRAILER"),
+            Refusal::NotAnItem => (35, "NOT AN ITEM"),
+            Refusal::Unknown(number) => (number, "UNKNOWN"),
+        }
+    }
+
+    /// What is wrong. Where there is no room, figures say more.
+    fn words(self) -> &'static str {
+        match self {
+            Refusal::Dialect => "a magic that is not one, or two types with one code",
+            Refusal::TooLong => "more than 4,294,967,295 bytes",
+            Refusal::State => "a position past the buffer, or a state out of range",
+            Refusal::Count => "a batch of more than 4,294,967,295 entries",
+            Refusal::Order => "a batch is open that has to be closed first, or none is open",
+            Refusal::Key => "a key of more than 65,535 bytes, or an empty one in a batch",
+            Refusal::Counted => "the batch has all of its entries, or not yet all",
+            Refusal::NoRoom { .. } => "the buffer is too short",
+            Refusal::Incomplete => "a field of the entry runs past the image",
+            Refusal::Tag => "the entry's tag is not 1 to 4",
+            Refusal::ValueType => "the item's type code is none of the dialect's",
+            Refusal::Compression => "the item's compression code is not the dialect's",
+            Refusal::Trailer => "the End does not close with the dialect's magic",
+            Refusal::NotAnItem => "a Start, an End and a Clear have no key and no value",
+            Refusal::Unknown(_) => "a number that this crate does not know",
         }
     }
 }
 
 impl fmt::Display for Refusal {
     fn fmt(&self, f: &mut fmt::Formatter<'_>) -> fmt::Result {
-        let (number, name, words) = self.told();
-        write!(f, "{number} {name}: ")?;
+        write!(f, "{} {}: ", self.number(), self.name())?;
         match self {
             Refusal::NoRoom { left, needed } => {
                 write!(
@@ -167,7 +148,7 @@ impl fmt::Display for Refusal {
                     "the buffer has {left} bytes left and {needed} are needed"
                 )
             }
-            _ => f.write_str(words),
+            _ => f.write_str(self.words()),
         }
     }
 }

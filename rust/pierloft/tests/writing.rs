@@ -270,53 +270,53 @@ fn nothing_to_write() {
 
 static LONG: [u8; 65536] = [7; 65536];
 
-/// Batches of one to four entries, of which one or two are at fault, at each place: every byte stays as it was. 23 would need a slice of
-/// 4,294,967,296 entries, which is more memory than there is.
+const GOOD: [Entry; 4] = [
+    Entry::Clear { keyspace: 1 },
+    item(1, b"a", b"xy"),
+    item(2, b"b", b""),
+    Entry::Clear { keyspace: 2 },
+];
+
+/// Batches of one to four entries where any number of bytes is missing: every byte stays as it was.
 #[test]
-fn a_batch_or_none_of_it() {
-    const BIG: usize = 90000;
-    let good = [
-        Entry::Clear { keyspace: 1 },
-        item(1, b"a", b"xy"),
-        item(2, b"b", b""),
-        Entry::Clear { keyspace: 2 },
-    ];
-    let wrong = [item(1, b"", b"x"), item(1, &LONG, b"")];
-    for count in 1..=good.len() {
-        let entries = &good[..count];
+fn a_batch_with_room_or_none_of_it() {
+    for entries in (1..=GOOD.len()).map(|count| &GOOD[..count]) {
         let needed = encoded_len(entries, Dialect::TEST);
+        let behind = |w: &mut Writer| {
+            w.write_clear(1, 1).unwrap();
+        };
         for left in 0..needed {
             let no_room = Refusal::NoRoom { left, needed };
-            assert_eq!(refused(left, &outside, &|w| w.batch(entries, 8)), no_room);
-            let behind = |w: &mut Writer| {
-                w.write_clear(1, 1).unwrap();
-            };
-            let size = 35 + left;
-            assert_eq!(refused(size, &behind, &|w| w.batch(entries, 8)), no_room);
+            let call: &Call = &|w| w.batch(entries, 8);
+            assert_eq!(refused(left, &outside, call), no_room);
+            assert_eq!(refused(35 + left, &behind, call), no_room);
         }
-        for (place, fault) in (0..count).flat_map(|place| wrong.map(|fault| (place, fault))) {
-            let mut faulty = entries.to_vec();
-            faulty[place] = fault;
-            // with room and without: the key comes first, wherever it is
-            for size in [BIG, needed, 30, 0] {
-                assert_eq!(
-                    refused(size, &outside, &|w| w.batch(&faulty, 8)),
-                    Refusal::Key
-                );
-            }
-            // and the order before it
-            for before in [&inside as &Before, &full] {
-                assert_eq!(
-                    refused(BIG, before, &|w| w.batch(&faulty, 8)),
-                    Refusal::Order
-                );
-            }
-        }
-        assert_eq!(
-            refused(BIG, &inside, &|w| w.batch(entries, 8)),
-            Refusal::Order
-        );
     }
+}
+
+/// Batches of one to four entries of which one is at fault, at each place: every byte stays as it was. 23 would need a slice of 4,294,967,296
+/// entries, which is more memory than there is.
+#[test]
+fn a_good_batch_or_none_of_it() {
+    let wrong = [item(1, b"", b"x"), item(1, &LONG, b"")];
+    let places = (1..=GOOD.len()).flat_map(|count| (0..count).map(move |place| (count, place)));
+    for ((count, place), fault) in places.flat_map(|at| wrong.map(|fault| (at, fault))) {
+        let mut entries = GOOD[..count].to_vec();
+        entries[place] = fault;
+        let call: &Call = &|w| w.batch(&entries, 8);
+        // with room and without: the key comes first, wherever it is
+        for size in [90000, 100, 30, 0] {
+            assert_eq!(refused(size, &outside, call), Refusal::Key);
+        }
+        // and the order before it
+        for before in [&inside as &Before, &full] {
+            assert_eq!(refused(90000, before, call), Refusal::Order);
+        }
+    }
+    assert_eq!(
+        refused(500, &inside, &|w| w.batch(&GOOD, 8)),
+        Refusal::Order
+    );
 }
 
 /// The state and the buffer's length come before all else.

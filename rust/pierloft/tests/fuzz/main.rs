@@ -6,8 +6,8 @@
 //!     FUZZ_CALLS=10000000 FUZZ_SEED=4101 cargo test --release --test fuzz -- --nocapture
 use pierloft::{
     batches_from, decode, encode_clear, encode_end, encode_item, encode_start, encoded_len,
-    xxh3_64, Dialect, Entry, Item, Outcome, ReadError, Refusal, ValueType, Writer, WriterState,
-    Xxh3,
+    xxh3_64, Batch, Batches, Dialect, Entry, Item, Outcome, ReadError, Refusal, ValueType, Writer,
+    WriterState, Xxh3,
 };
 use plain::{Call, State};
 use std::collections::BTreeMap;
@@ -427,50 +427,24 @@ impl World {
 
     fn read(&mut self) {
         let image = self.image();
-        let from = if self.numbers.one_in(3) {
-            self.numbers.below(image.len() + 3)
-        } else {
-            0
-        };
+        let mut from = 0;
+        if self.numbers.one_in(3) {
+            from = self.numbers.below(image.len() + 3);
+        }
         let mut journal = batches_from(&image, from, self.dialect);
         if from > image.len() {
-            let refused = Refusal::State;
-            assert_eq!(journal.next().unwrap().unwrap_err(), refused.into());
-            assert!(journal.next().is_none());
-            assert_eq!(
-                (journal.outcome(), journal.kept()),
-                (Err(refused), Err(refused))
-            );
-            return assert_eq!((journal.refusal(), journal.valid()), (Some(refused), from));
+            return is_refused(journal, from);
         }
         let (wanted, outcome, valid) = plain::read(&image, from, self.dialect);
         for seen in &wanted {
-            let batch = journal.next().unwrap().unwrap();
-            assert_eq!(
-                (batch.at(), batch.end(), batch.seqno()),
-                (seen.at, seen.end, seen.seqno)
-            );
-            let entries = batch.entries();
-            assert_eq!(
-                (entries.len(), batch.count()),
-                (seen.entries.len(), entries.len() as u64)
-            );
-            assert!(entries.eq(seen.entries.iter().copied()));
-            assert_eq!(
-                batch.items().count() + batch.clears().count(),
-                seen.entries.len()
-            );
+            is_batch(&journal.next().unwrap().unwrap(), seen);
         }
         let last = journal.next().map(|last| last.unwrap_err());
         assert_eq!(last, error(outcome, valid));
         assert!(journal.next().is_none());
         assert_eq!((journal.outcome(), journal.valid()), (Ok(outcome), valid));
-        let kept = if outcome == Outcome::Torn {
-            valid
-        } else {
-            image.len()
-        };
-        assert_eq!(journal.kept(), Ok(kept));
+        let torn = outcome == Outcome::Torn;
+        assert_eq!(journal.kept(), Ok(if torn { valid } else { image.len() }));
         *self.seen.entry(outcome.to_string()).or_default() += 1;
     }
 
@@ -491,41 +465,29 @@ impl World {
         let (entry, number, dialect) = (self.numbers.entry(), self.numbers.number(), self.dialect);
         let mut buffer = self.numbers.part(60).to_vec();
         let mut wanted = buffer.clone();
-        let (bytes, answer) = match (self.numbers.below(4), entry) {
-            (0, _) => (
-                plain::start(number as u32, number),
-                encode_start(&mut buffer, number as u32, number, dialect),
-            ),
-            (1, _) => (
-                plain::end(number, dialect),
-                encode_end(&mut buffer, number, dialect),
-            ),
-            (_, Entry::Clear { keyspace }) => (
-                plain::entry(&entry, dialect),
-                encode_clear(&mut buffer, keyspace, dialect),
-            ),
-            (_, Entry::Item(i)) => {
-                let answer = encode_item(
-                    &mut buffer,
-                    i.keyspace,
-                    i.key,
-                    i.value,
-                    i.value_type,
-                    dialect,
-                );
-                if i.key.len() > 65535 {
-                    assert_eq!(answer, Err(Refusal::Key));
-                    return assert!(buffer == wanted);
-                }
+        let (bytes, answer) = match self.numbers.below(4) {
+            0 => {
+                let count = number as u32;
+                let answer = encode_start(&mut buffer, count, number, dialect);
+                (plain::start(count, number), answer)
+            }
+            1 => {
+                let answer = encode_end(&mut buffer, number, dialect);
+                (plain::end(number, dialect), answer)
+            }
+            _ => {
+                let answer = encode(&mut buffer, &entry, dialect);
                 (plain::entry(&entry, dialect), answer)
             }
         };
         let (left, needed) = (buffer.len(), bytes.len());
-        if left < needed {
-            assert_eq!(answer, Err(Refusal::NoRoom { left, needed }));
-        } else {
-            assert_eq!(answer, Ok(needed));
-            wanted[..needed].copy_from_slice(&bytes);
+        match answer {
+            Err(Refusal::Key) => assert!(is_too_long(&entry)),
+            Err(why) => assert!(left < needed && why == Refusal::NoRoom { left, needed }),
+            Ok(wrote) => {
+                assert_eq!(wrote, needed);
+                wanted[..wrote].copy_from_slice(&bytes);
+            }
         }
         assert!(buffer == wanted);
         let whole = 22 + dialect.magic().len() + entry.encoded_len();
@@ -544,6 +506,38 @@ impl World {
         assert_eq!(self.hasher.total(), self.hashed.len() as u64);
         assert_eq!(Ok(self.hasher.digest()), xxh3_64(&self.hashed));
     }
+}
+
+fn is_refused(mut journal: Batches<'_>, from: usize) {
+    let refused = Refusal::State;
+    assert_eq!(journal.refusal(), Some(refused));
+    assert_eq!(journal.next().unwrap().unwrap_err(), refused.into());
+    assert!(journal.next().is_none());
+    assert_eq!(journal.outcome(), Err(refused));
+    assert_eq!(journal.kept(), Err(refused));
+    assert_eq!(journal.valid(), from);
+}
+
+fn is_batch(batch: &Batch<'_>, seen: &plain::Seen<'_>) {
+    let place = (batch.at(), batch.end(), batch.seqno());
+    assert_eq!(place, (seen.at, seen.end, seen.seqno));
+    assert_eq!(batch.count(), seen.entries.len() as u64);
+    let entries = batch.entries();
+    assert_eq!(entries.len(), seen.entries.len());
+    assert!(entries.eq(seen.entries.iter().copied()));
+    let (items, clears) = (batch.items().count(), batch.clears().count());
+    assert_eq!(items + clears, seen.entries.len());
+}
+
+fn encode(buffer: &mut [u8], entry: &Entry<'_>, dialect: Dialect) -> Result<usize, Refusal> {
+    match *entry {
+        Entry::Clear { keyspace } => encode_clear(buffer, keyspace, dialect),
+        Entry::Item(i) => encode_item(buffer, i.keyspace, i.key, i.value, i.value_type, dialect),
+    }
+}
+
+fn is_too_long(entry: &Entry<'_>) -> bool {
+    matches!(entry, Entry::Item(item) if item.key.len() > 65535)
 }
 
 fn error(outcome: Outcome, at: usize) -> Option<ReadError> {

@@ -118,6 +118,17 @@ pub struct Seen<'a> {
     pub entries: Vec<Entry<'a>>,
 }
 
+impl Seen<'_> {
+    fn new(at: usize, seqno: u64) -> Self {
+        Seen {
+            at,
+            end: at,
+            seqno,
+            entries: vec![],
+        }
+    }
+}
+
 /// All batches from a position on, the outcome, and the last valid position.
 pub fn read(image: &[u8], from: usize, dialect: Dialect) -> (Vec<Seen<'_>>, Outcome, usize) {
     let (mut all, mut valid, mut at) = (vec![], from, from);
@@ -128,16 +139,7 @@ pub fn read(image: &[u8], from: usize, dialect: Dialect) -> (Vec<Seen<'_>>, Outc
         }
         at = match (decode(image, at, dialect), &mut batch) {
             (Ok(Decoded::Start { count, seqno, next }), None) => {
-                let (end, entries) = (0, vec![]);
-                batch = Some((
-                    count,
-                    Seen {
-                        at,
-                        end,
-                        seqno,
-                        entries,
-                    },
-                ));
+                batch = Some((count, Seen::new(at, seqno)));
                 next
             }
             (Ok(Decoded::Entry { .. }), Some((0, _))) => break Outcome::TooMany,
