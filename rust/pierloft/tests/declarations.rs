@@ -1,6 +1,5 @@
 //! The declarations in src/ffi.rs against the library's source. Nothing else holds them to it.
 use ffi::*;
-use pierloft as _;
 use std::mem::{offset_of, size_of};
 
 #[path = "../src/ffi.rs"]
@@ -115,8 +114,18 @@ fn sizes_and_offsets() {
     assert_eq!(offset_of!(FlatReply, writer), 16);
 }
 
-/// The number in the function's name is the one that it answers.
+/// A program that was built for one layout must not link with another, so each has a number of its own. Where this fails a struct has changed:
+/// give `pierloft_abi_1` the next number, here, in the header and in the library, and set the sum behind it.
 #[test]
 fn the_layout_has_its_number() {
-    assert_eq!(abi(), 1);
+    let text: String = structs(HERE)
+        .iter()
+        .map(|(name, fields)| format!("{name} {{\n{fields}\n}}\n"))
+        .collect();
+    let sum = pierloft::xxh3_64(text.as_bytes()).unwrap();
+    assert_eq!(
+        (abi(), format!("{sum:x}")),
+        (1, "4b3cb78c76ec9fae".into()),
+        "{text}"
+    );
 }
