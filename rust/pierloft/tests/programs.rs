@@ -64,6 +64,18 @@ fn dump_lists_document_01s_journal() {
     assert_eq!(done.stdout, b"journal 0 bytes\nend 0 valid 0 kept 0\n");
 }
 
+/// A listing that cannot be written is no outcome.
+#[cfg(target_os = "linux")]
+#[test]
+fn dump_to_a_full_disk() {
+    let full = std::fs::File::create("/dev/full").unwrap();
+    let mut dump = program("dump");
+    let done = dump.arg(sample("claims.jnl")).stdout(full).output();
+    let done = done.unwrap();
+    assert_eq!(done.status.code(), Some(74));
+    assert!(!done.stderr.is_empty());
+}
+
 /// tests/script.sh holds the proved programs to the same files.
 #[test]
 fn dump_lists_the_samples() {
