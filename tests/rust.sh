@@ -1,6 +1,7 @@
 #!/bin/sh
 # The Rust crate: its tests, with and without std, warnings of the compiler, of clippy and of rustdoc as errors, layout, the package; then a
-# program that uses it, to see what links and what must not. Status 77 where this machine has no cargo; what else is missing is said.
+# program that uses it, to see what links and what must not. Status 77 where this machine has no cargo, or no cc, by which it links; what
+# else is missing is said.
 set -u
 cd "$(dirname "$0")/.." || exit 2
 top=$(pwd -P)
@@ -10,10 +11,12 @@ fail() {
     say "$*"
     exit 1
 }
-command -v cargo >/dev/null || {
-    say 'not run: no cargo'
-    exit 77
-}
+for tool in cargo cc; do
+    command -v "$tool" >/dev/null || {
+        say "not run: no $tool"
+        exit 77
+    }
+done
 # shellcheck source=tests/package.sh
 . tests/package.sh
 

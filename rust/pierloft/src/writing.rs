@@ -56,9 +56,8 @@ impl<'a> Writer<'a> {
     }
 
     /// Goes on with a journal. The buffer is read; where it ends clean or torn, all bytes behind the last valid position are set to zero, and
-    /// the writer stands there. fjall cuts a torn file for the same reason. What is torn is lost: under another dialect than it was written
-    /// in, a journal is torn at its first batch, and so is one that another program has begun to write over. Where that can be, look at
-    /// [`batches`] first, or keep a copy.
+    /// the writer stands there. fjall cuts a torn file for the same reason. What lies behind the torn place is lost; under another dialect than
+    /// it was written in, a journal is torn at its first batch. Where that can be, look at [`batches`] first, or keep a copy.
     ///
     /// ```
     /// use pierloft::{batches, Dialect, Writer};

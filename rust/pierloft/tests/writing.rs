@@ -258,6 +258,23 @@ fn room() {
     }
 }
 
+/// A value that no journal can hold, by every call that takes one. It is asked for and never touched: it takes no memory.
+#[test]
+fn a_value_that_is_too_long() {
+    let value = vec![0; 1 << 32];
+    let whole = 26 + 22 + value.len();
+    let calls: [(usize, &Before, &Call); 3] = [
+        (whole, &outside, &|w| w.write_raw(1, b"k", &value, V, 1)),
+        (whole, &outside, &|w| w.batch(&[item(1, b"k", &value)], 1)),
+        (whole - 13, &inside, &|w| w.put_item(1, b"k", &value, V)),
+    ];
+    for (needed, before, call) in calls {
+        let left = if needed == whole { 100 } else { 87 };
+        let no_room = Refusal::NoRoom { left, needed };
+        assert_eq!(refused(100, before, call), no_room);
+    }
+}
+
 #[test]
 fn nothing_to_write() {
     let mut buffer = [];
