@@ -1,5 +1,6 @@
 //! Reads and writes the journal of fjall 3.1.13, uncompressed, over memory that the caller lends. What does the work is proved, in the
-//! Rattle crates of this repository: this crate calls their static library and turns its numbers into Rust's types. Nothing allocates.
+//! Rattle crates of this repository: this crate calls their static library and turns its numbers into Rust's types. Nothing allocates, but
+//! for a `std::io::Error` where one is made.
 //!
 //! What is proved, over every good [`Dialect`] and every image, buffer and state:
 //!
@@ -7,11 +8,12 @@
 //!   refused call changes nothing;
 //! - [`batches`] shows the batches, the last valid position and the [`Outcome`] that the specification's layout and reading rules give, and the
 //!   checksum that it compares is XXH3-64 (that fjall's reader gives the same was shown by runs on millions of images);
-//! - what a [`Writer`] wrote reads back as it was put; bytes behind a clean journal change nothing of its batches; a written journal cut
-//!   anywhere yields exactly the batches before the cut.
+//! - what a [`Writer`] wrote over its own buffer reads back as it was put; bytes behind a clean journal change nothing of its batches; a
+//!   written journal cut anywhere yields exactly the batches before the cut.
 //!
 //! Not proved: this crate, which is thin for that reason (its `unsafe` is in one small module), the compiler's back end, and that the codes of
-//! [`Dialect::SHIPPED`] are those of fjall's dependency lsm_tree. The repository's README says more.
+//! [`Dialect::SHIPPED`] are those of fjall's dependency lsm_tree. What the crate does by itself is tested: it judges a whole batch before it
+//! is written, sets bytes to zero, and makes errors of outcomes. The repository's README says more.
 //!
 //! ```
 //! use pierloft::{batches, Dialect, Entry, Item, Outcome, ValueType, Writer};
