@@ -8,8 +8,9 @@ const ARCHIVE: &str = "libpierloft.a";
 
 fn main() {
     println!("cargo:rerun-if-env-changed=PIERLOFT_LIB_DIR");
+    look_at_the_target();
     let folder = match std::env::var_os("PIERLOFT_LIB_DIR") {
-        Some(folder) => PathBuf::from(folder),
+        Some(folder) => workspace().join(folder),
         None => built(),
     };
     let archive = folder.join(ARCHIVE);
@@ -21,9 +22,39 @@ fn main() {
     println!("cargo:rustc-link-lib=static=pierloft");
 }
 
+fn folder(name: &str) -> PathBuf {
+    PathBuf::from(std::env::var_os(name).expect("cargo sets it"))
+}
+
+/// Code for another machine, calling convention or file format would not link, or be called wrongly.
+fn look_at_the_target() {
+    let is = |name: &str, wanted: &str| std::env::var(name).is_ok_and(|value| value == wanted);
+    let machine =
+        is("CARGO_CFG_TARGET_ARCH", "x86_64") && is("CARGO_CFG_TARGET_POINTER_WIDTH", "64");
+    let foreign = is("CARGO_CFG_TARGET_VENDOR", "apple")
+        || ["windows", "uefi", "cygwin"]
+            .iter()
+            .any(|system| is("CARGO_CFG_TARGET_OS", system));
+    if !machine || foreign {
+        let target = std::env::var("TARGET").unwrap_or_default();
+        fail(&format!(
+            "the library is there for x86-64 alone (64-bit pointers, ELF, the System V calling convention), and this build is for {target}"
+        ));
+    }
+}
+
+/// Where a relative PIERLOFT_LIB_DIR counts from: the folder with Cargo.lock above the build's output, which is the workspace's unless its
+/// output lies elsewhere; else above this crate.
+fn workspace() -> PathBuf {
+    let (output, here) = (folder("OUT_DIR"), folder("CARGO_MANIFEST_DIR"));
+    let mut above = output.ancestors().chain(here.ancestors());
+    let found = above.find(|folder| folder.join("Cargo.lock").is_file());
+    found.unwrap_or(&here).to_path_buf()
+}
+
 /// The repository's own folder, with the library in it.
 fn built() -> PathBuf {
-    let here = PathBuf::from(std::env::var_os("CARGO_MANIFEST_DIR").expect("cargo sets it"));
+    let here = folder("CARGO_MANIFEST_DIR");
     let Some(top) = here
         .ancestors()
         .nth(2)

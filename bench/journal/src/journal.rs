@@ -4,7 +4,7 @@ use crate::hashing::shipped;
 use crate::heap::asked;
 use crate::line;
 use fjall::{Fjall, Items};
-use pierloft::{batches, Dialect, Entry, Outcome, ValueType, Writer};
+use pierloft::{batches, encoded_len, Dialect, Entry, Item, Outcome, ValueType, Writer, WriterState};
 use std::hint::black_box;
 use std::os::unix::fs::FileExt;
 
@@ -37,8 +37,9 @@ impl Load {
 
     /// So many batches fill `size` bytes.
     fn times(&self, size: usize) -> u64 {
-        let batch = 26 + self.items().map(|(key, value)| 21 + key.len() + value.len()).sum::<usize>();
-        (size / batch) as u64
+        let item = |(key, value)| Entry::Item(Item { keyspace: KEYSPACE, key, value, value_type: ValueType::Value });
+        let batch: Vec<Entry> = self.items().map(item).collect();
+        (size / encoded_len(&batch, DIALECT)) as u64
     }
 }
 
@@ -47,24 +48,24 @@ fn read(image: &[u8]) -> (usize, usize) {
     let mut journal = batches(image, DIALECT);
     let (mut items, mut bytes) = (0, 0);
     for batch in &mut journal {
-        for entry in batch {
-            if let Entry::Item { key, value, .. } = entry {
-                items += 1;
-                bytes += key.len() + value.len();
-            }
+        for item in batch.expect("no damage").items() {
+            items += 1;
+            bytes += item.key.len() + item.value.len();
         }
     }
     assert_eq!(journal.outcome(), Ok(Outcome::Clean));
     (items, bytes)
 }
 
-/// The items of a load written `times` times, one batch each: the bytes written.
+/// The items of a load written `times` times, one batch each: the bytes written. Over the buffer as it is: that `Writer::new` sets it to zero
+/// is a cost of the journal, once, and not of its batches.
 fn write(buffer: &mut [u8], load: &Load, times: u64) -> usize {
-    let mut writer = Writer::new(buffer, DIALECT);
+    let mut state = WriterState::over_zeros(DIALECT);
+    let mut writer = Writer::attach(buffer, &mut state);
     for seqno in 0..times {
         writer.open(COUNT as u64, seqno).expect("room");
         for (key, value) in load.items() {
-            writer.put_item(ValueType::Value, KEYSPACE, key, value).expect("room");
+            writer.put_item(KEYSPACE, key, value, ValueType::Value).expect("room");
         }
         writer.close().expect("room");
     }

@@ -4,7 +4,7 @@
 //!
 //! The status is the outcome (0 clean, 1 torn, 2 to 4 the errors) or the number of a refusal; 64 for a wrong call, 66 for a file that cannot
 //! be read, 74 where the listing cannot be written.
-use pierloft::{batches, Dialect, Entry};
+use pierloft::{batches, Dialect, Entry, Item};
 use std::fmt;
 use std::io::{self, BufWriter, Write};
 use std::process::ExitCode;
@@ -45,7 +45,8 @@ pub fn list(image: &[u8], dialect: Dialect, mut out: impl Write) -> io::Result<u
         return Ok(refusal.number());
     }
     writeln!(out, "journal {} bytes", image.len())?;
-    for batch in &mut journal {
+    // damage is told by the last line
+    while let Some(Ok(batch)) = journal.next() {
         writeln!(
             out,
             "@{} seq {} entries {}",
@@ -55,12 +56,12 @@ pub fn list(image: &[u8], dialect: Dialect, mut out: impl Write) -> io::Result<u
         )?;
         for entry in batch {
             match entry {
-                Entry::Item {
+                Entry::Item(Item {
                     keyspace,
-                    value_type,
                     key,
                     value,
-                } => {
+                    value_type,
+                }) => {
                     writeln!(
                         out,
                         "item {keyspace} {value_type} {} {}",

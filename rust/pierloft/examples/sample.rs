@@ -1,7 +1,7 @@
 //! Makes the sample journals anew: claims.jnl under SHIPPED and test.jnl under TEST, each of several batches and torn at its end.
 //!
 //!     cargo run --example sample -- ../../samples
-use pierloft::{Dialect, Entry, Refusal, ValueType, Writer};
+use pierloft::{Dialect, Entry, Item, Refusal, ValueType, Writer};
 use std::path::PathBuf;
 use std::process::ExitCode;
 
@@ -12,58 +12,57 @@ const DRAFTS: u64 = 9;
 
 const fn item<'a>(
     keyspace: u64,
-    value_type: ValueType,
     key: &'a [u8],
     value: &'a [u8],
+    value_type: ValueType,
 ) -> Entry<'a> {
-    Entry::Item {
+    Entry::Item(Item {
         keyspace,
-        value_type,
         key,
         value,
-    }
+        value_type,
+    })
 }
 
 /// A morning on the claims bus. The power fails while the last batch is written.
 pub fn claims() -> Result<Vec<u8>, Refusal> {
-    use ValueType::{Indirection, Tombstone, Value, WeakTombstone};
+    use ValueType::{Tombstone, Value, WeakTombstone};
     let mut buffer = [0; 1024];
     let mut bus = Writer::new(&mut buffer, Dialect::SHIPPED);
 
     // two claims come in, one with a reserve
     bus.open(3, 4101)?;
-    bus.put_item(Value, CLAIMS, b"C-2081", b"open storm")?;
-    bus.put_item(Value, CLAIMS, b"C-2082", b"open fire")?;
-    bus.put_item(Value, RESERVES, b"C-2081", b"EUR 18500")?;
+    bus.put_item(CLAIMS, b"C-2081", b"open storm", Value)?;
+    bus.put_item(CLAIMS, b"C-2082", b"open fire", Value)?;
+    bus.put_item(RESERVES, b"C-2081", b"EUR 18500", Value)?;
     bus.close()?;
 
-    // photos that lie elsewhere, at place 8,192; a reserve that nobody has set yet
-    let place = 8192u32.to_le_bytes();
+    // a photo of the roof; a reserve that nobody has set yet
     bus.batch(
-        4102,
         &[
-            item(PHOTOS, Indirection, b"C-2082", &place),
-            item(RESERVES, Value, b"C-2082", b""),
+            item(PHOTOS, b"C-2082", b"roof", Value),
+            item(RESERVES, b"C-2082", b"", Value),
         ],
+        4102,
     )?;
 
     // an old claim is deleted, by a call of its own; so are all drafts
-    bus.write_raw(4103, Tombstone, CLAIMS, b"C-1990", b"")?;
-    bus.write_clear(4104, DRAFTS)?;
+    bus.write_raw(CLAIMS, b"C-1990", b"", Tombstone, 4103)?;
+    bus.write_clear(DRAFTS, 4104)?;
 
     // the storm is settled: its reserve is released, the assessor's photos go
     bus.batch(
-        4105,
         &[
-            item(CLAIMS, Value, b"C-2081", b"settled storm"),
-            item(RESERVES, WeakTombstone, b"C-2081", b""),
+            item(CLAIMS, b"C-2081", b"settled storm", Value),
+            item(RESERVES, b"C-2081", b"", WeakTombstone),
             Entry::Clear { keyspace: PHOTOS },
         ],
+        4105,
     )?;
 
     bus.open(2, 4106)?;
-    bus.put_item(Value, CLAIMS, b"C-2083", b"open theft")?;
-    bus.put_item(Value, RESERVES, b"C-2083", b"EUR 920")?;
+    bus.put_item(CLAIMS, b"C-2083", b"open theft", Value)?;
+    bus.put_item(RESERVES, b"C-2083", b"EUR 920", Value)?;
     let written = bus.written();
     Ok(written[..written.len() - 5].to_vec())
 }
@@ -73,18 +72,18 @@ pub fn test() -> Result<Vec<u8>, Refusal> {
     use ValueType::{Indirection, Tombstone, Value, WeakTombstone};
     let mut buffer = [0; 512];
     let mut writer = Writer::new(&mut buffer, Dialect::TEST);
-    writer.write_raw(7, Value, 2, b"a", b"xy")?;
+    writer.write_raw(2, b"a", b"xy", Value, 7)?;
     writer.batch(
-        8,
         &[
-            item(2, Value, b"b", b""),
-            item(2, Tombstone, b"a", b""),
-            item(2, WeakTombstone, b"c", b""),
-            item(u64::MAX, Indirection, b"d", &[0, 255]),
+            item(2, b"b", b"", Value),
+            item(2, b"a", b"", Tombstone),
+            item(2, b"c", b"", WeakTombstone),
+            item(u64::MAX, b"d", &[0, 255], Indirection),
             Entry::Clear { keyspace: 3 },
         ],
+        8,
     )?;
-    writer.write_clear(9, 2)?;
+    writer.write_clear(2, 9)?;
     let end = writer.position() + 16;
     Ok(buffer[..end].to_vec())
 }

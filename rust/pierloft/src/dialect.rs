@@ -1,6 +1,6 @@
 use crate::ffi;
 use crate::Refusal;
-use std::fmt;
+use core::fmt;
 
 /// The numbers that the layout leaves open: the magic that ends a batch, the codes of the four types of value, and the code for no
 /// compression. Only good ones can be had.
@@ -107,11 +107,15 @@ pub enum ValueType {
     /// The key was deleted, and had been written at most once.
     WeakTombstone,
     /// The value says where the key's value lies.
+    ///
+    /// Where such an item is to be replayed, fjall's own recovery of a sealed journal panics (`unreachable!` in its recovery.rs). So it can be
+    /// read here, but do not write one into a journal that fjall shall open.
     Indirection,
 }
 
 impl ValueType {
-    pub(crate) const ALL: [ValueType; 4] = [
+    /// The four, in the order that [`Dialect::types`] has their codes in.
+    pub const ALL: [ValueType; 4] = [
         ValueType::Value,
         ValueType::Tombstone,
         ValueType::WeakTombstone,

@@ -5,7 +5,8 @@
 //! buffer or state that is lent `&mut`; they keep no pointer, allocate nothing and call nothing outside. So a call needs no more than what
 //! Rust's own references give: a pointer and a length that belong together (both come from one slice, never null), and a buffer lent
 //! `&mut` that nothing else lies in. What the proofs don't cover is that the declarations below are the library's: the structs and the
-//! functions' types are held to its source by the tests at the end of this file, their answers by the tests of this crate.
+//! functions' types are held to its source by tests/declarations.rs, their answers by the other tests of this crate, and the archive that is
+//! linked by the number of its layout (`call!`).
 #![allow(unsafe_code, dead_code)]
 
 #[repr(C)]
@@ -117,6 +118,7 @@ mod c {
     use super::*;
 
     extern "C" {
+        pub fn pierloft_abi_1() -> u32;
         pub fn pierloft_shipped() -> Dialect;
         pub fn pierloft_test() -> Dialect;
         pub fn pierloft_check(d: Dialect) -> u32;
@@ -254,85 +256,111 @@ mod c {
     }
 }
 
+/// The number of the structs' layout, which the library has in a function's name.
+static LAYOUT: unsafe extern "C" fn() -> u32 = c::pierloft_abi_1;
+
+/// A call. Each looks at `LAYOUT`, so that no program links with an archive of another layout: an archive without that name is not the one
+/// that these declarations are of. Volatile, since a look that nothing needs, or a static that nothing looks at, is dropped before the linker
+/// asks for the name.
+macro_rules! call {
+    ($name:ident($($argument:expr),* $(,)?)) => {
+        unsafe {
+            core::ptr::read_volatile(&LAYOUT);
+            c::$name($($argument),*)
+        }
+    };
+}
+
+#[inline]
+pub fn abi() -> u32 {
+    call!(pierloft_abi_1())
+}
+
 #[inline]
 pub fn shipped() -> Dialect {
-    unsafe { c::pierloft_shipped() }
+    call!(pierloft_shipped())
 }
 
 #[inline]
 pub fn test() -> Dialect {
-    unsafe { c::pierloft_test() }
+    call!(pierloft_test())
 }
 
 #[inline]
 pub fn check(dialect: Dialect) -> u32 {
-    unsafe { c::pierloft_check(dialect) }
+    call!(pierloft_check(dialect))
 }
 
 #[inline]
 pub fn decode(image: &[u8], at: usize, dialect: Dialect) -> FlatEntry {
-    unsafe { c::pierloft_decode(image.as_ptr(), image.len(), at, dialect) }
+    call!(pierloft_decode(image.as_ptr(), image.len(), at, dialect))
 }
 
 #[inline]
 pub fn step(image: &[u8], reader: FlatReader, dialect: Dialect) -> FlatStepped {
-    unsafe { c::pierloft_step(image.as_ptr(), image.len(), reader, dialect) }
+    call!(pierloft_step(image.as_ptr(), image.len(), reader, dialect))
 }
 
 #[inline]
 pub fn kept(length: usize, reader: FlatReader) -> FlatCount {
-    unsafe { c::pierloft_kept(length, reader) }
+    call!(pierloft_kept(length, reader))
 }
 
 #[inline]
 pub fn key(image: &[u8], at: usize, dialect: Dialect) -> FlatSpan {
-    unsafe { c::pierloft_key(image.as_ptr(), image.len(), at, dialect) }
+    call!(pierloft_key(image.as_ptr(), image.len(), at, dialect))
 }
 
 #[inline]
 pub fn value(image: &[u8], at: usize, dialect: Dialect) -> FlatSpan {
-    unsafe { c::pierloft_value(image.as_ptr(), image.len(), at, dialect) }
+    call!(pierloft_value(image.as_ptr(), image.len(), at, dialect))
 }
 
 #[inline]
 pub fn body(length: usize, from: usize, to: usize) -> FlatSpan {
-    unsafe { c::pierloft_body(length, from, to) }
+    call!(pierloft_body(length, from, to))
 }
 
 #[inline]
 pub fn xxh3_64(bytes: &[u8]) -> FlatHash {
-    unsafe { c::pierloft_xxh3_64(bytes.as_ptr(), bytes.len()) }
+    call!(pierloft_xxh3_64(bytes.as_ptr(), bytes.len()))
 }
 
 #[inline]
 pub fn hasher_new() -> Hasher {
-    unsafe { c::pierloft_hasher_new() }
+    call!(pierloft_hasher_new())
 }
 
 #[inline]
 pub fn absorb(state: Hasher, piece: &[u8]) -> Absorbed {
-    unsafe { c::pierloft_absorb(state, piece.as_ptr(), piece.len()) }
+    call!(pierloft_absorb(state, piece.as_ptr(), piece.len()))
 }
 
 #[inline]
 pub fn absorb_into(state: &mut Hasher, piece: &[u8]) -> u32 {
-    unsafe { c::pierloft_absorb_into(state, piece.as_ptr(), piece.len()) }
+    call!(pierloft_absorb_into(state, piece.as_ptr(), piece.len()))
 }
 
 #[inline]
 pub fn finish(state: Hasher) -> FlatHash {
-    unsafe { c::pierloft_finish(state) }
+    call!(pierloft_finish(state))
 }
 
 #[inline]
 pub fn absorb_at(state: &mut Hasher, piece: &[u8]) -> u32 {
     let Hasher { acc, hold, total } = state;
-    unsafe { c::pierloft_absorb_at(acc, hold, total, piece.as_ptr(), piece.len()) }
+    call!(pierloft_absorb_at(
+        acc,
+        hold,
+        total,
+        piece.as_ptr(),
+        piece.len()
+    ))
 }
 
 #[inline]
 pub fn finish_at(state: &Hasher) -> FlatHash {
-    unsafe { c::pierloft_finish_at(&state.acc, &state.hold, state.total) }
+    call!(pierloft_finish_at(&state.acc, &state.hold, state.total))
 }
 
 /// An item's four parts. The type is 0 to 3; any other is refused.
@@ -347,28 +375,50 @@ pub struct FlatItem<'a> {
 macro_rules! with_item {
     ($call:ident, $item:ident, $($first:expr),*) => {{
         let FlatItem { value_type, keyspace, key, value } = $item;
-        unsafe { c::$call($($first,)* value_type, keyspace, key.as_ptr(), key.len(), value.as_ptr(), value.len()) }
+        call!($call($($first,)* value_type, keyspace, key.as_ptr(), key.len(), value.as_ptr(), value.len()))
     }};
 }
 
 #[inline]
 pub fn encode_start(buf: &mut [u8], dialect: Dialect, count: u32, seqno: u64) -> FlatCount {
-    unsafe { c::pierloft_encode_start(buf.as_mut_ptr(), buf.len(), dialect, count, seqno) }
+    call!(pierloft_encode_start(
+        buf.as_mut_ptr(),
+        buf.len(),
+        dialect,
+        count,
+        seqno
+    ))
 }
 
 #[inline]
 pub fn encode_item(buf: &mut [u8], dialect: Dialect, item: FlatItem<'_>) -> FlatCount {
-    with_item!(pierloft_encode_item, item, buf.as_mut_ptr(), buf.len(), dialect)
+    with_item!(
+        pierloft_encode_item,
+        item,
+        buf.as_mut_ptr(),
+        buf.len(),
+        dialect
+    )
 }
 
 #[inline]
 pub fn encode_end(buf: &mut [u8], dialect: Dialect, checksum: u64) -> FlatCount {
-    unsafe { c::pierloft_encode_end(buf.as_mut_ptr(), buf.len(), dialect, checksum) }
+    call!(pierloft_encode_end(
+        buf.as_mut_ptr(),
+        buf.len(),
+        dialect,
+        checksum
+    ))
 }
 
 #[inline]
 pub fn encode_clear(buf: &mut [u8], dialect: Dialect, keyspace: u64) -> FlatCount {
-    unsafe { c::pierloft_encode_clear(buf.as_mut_ptr(), buf.len(), dialect, keyspace) }
+    call!(pierloft_encode_clear(
+        buf.as_mut_ptr(),
+        buf.len(),
+        dialect,
+        keyspace
+    ))
 }
 
 /// Where a writer writes: its buffer, its dialect and its state.
@@ -381,7 +431,9 @@ pub struct Place<'a> {
 #[inline]
 pub fn open(to: Place<'_>, count: u64, seqno: u64) -> FlatReply {
     let (buf, length) = (to.buf.as_mut_ptr(), to.buf.len());
-    unsafe { c::pierloft_open(buf, length, to.dialect, to.writer, count, seqno) }
+    call!(pierloft_open(
+        buf, length, to.dialect, to.writer, count, seqno
+    ))
 }
 
 #[inline]
@@ -393,139 +445,35 @@ pub fn put_item(to: Place<'_>, item: FlatItem<'_>) -> FlatReply {
 #[inline]
 pub fn put_clear(to: Place<'_>, keyspace: u64) -> FlatReply {
     let (buf, length) = (to.buf.as_mut_ptr(), to.buf.len());
-    unsafe { c::pierloft_put_clear(buf, length, to.dialect, to.writer, keyspace) }
+    call!(pierloft_put_clear(
+        buf, length, to.dialect, to.writer, keyspace
+    ))
 }
 
 #[inline]
 pub fn close(to: Place<'_>) -> FlatReply {
     let (buf, length) = (to.buf.as_mut_ptr(), to.buf.len());
-    unsafe { c::pierloft_close(buf, length, to.dialect, to.writer) }
+    call!(pierloft_close(buf, length, to.dialect, to.writer))
 }
 
 #[inline]
 pub fn write_raw(to: Place<'_>, seqno: u64, item: FlatItem<'_>) -> FlatReply {
     let (buf, length) = (to.buf.as_mut_ptr(), to.buf.len());
-    with_item!(pierloft_write_raw, item, buf, length, to.dialect, to.writer, seqno)
+    with_item!(
+        pierloft_write_raw,
+        item,
+        buf,
+        length,
+        to.dialect,
+        to.writer,
+        seqno
+    )
 }
 
 #[inline]
 pub fn write_clear(to: Place<'_>, seqno: u64, keyspace: u64) -> FlatReply {
     let (buf, length) = (to.buf.as_mut_ptr(), to.buf.len());
-    unsafe { c::pierloft_write_clear(buf, length, to.dialect, to.writer, seqno, keyspace) }
-}
-
-/// These declarations against the library's source. Nothing else holds them to it.
-#[cfg(test)]
-mod tests {
-    use super::*;
-    use std::mem::{offset_of, size_of};
-
-    const HERE: &str = include_str!("ffi.rs");
-    const LIBRARY: &str = include_str!("../../../crates/pierloft/src/lib.rt");
-    /// The crates whose structs cross.
-    const DECLARING: [&str; 3] = [
-        include_str!("../../../crates/dialect/src/lib.rt"),
-        include_str!("../../../crates/stream/src/lib.rt"),
-        include_str!("../../../crates/flat/src/lib.rt"),
-    ];
-
-    /// The fields of each `#[repr(C)]` struct, as they stand in the text.
-    fn structs(text: &str) -> Vec<(&str, &str)> {
-        text.split("\n#[repr(C)]\n")
-            .skip(1)
-            .map(|rest| {
-                let rest = &rest[rest.find("pub struct ").expect("a struct") + 11..];
-                rest.split_once(" {\n").expect("its fields")
-            })
-            .map(|(name, rest)| (name, rest.split_once("\n}").expect("its end").0))
-            .collect()
-    }
-
-    /// A type as it crosses: a slice as a pointer and a length, any other reference as a pointer.
-    fn crossing(of: &str) -> Vec<String> {
-        match of {
-            "&[u8]" => vec!["*const u8".into(), "usize".into()],
-            "&mut [u8]" => vec!["*mut u8".into(), "usize".into()],
-            of => match of.strip_prefix("&mut ") {
-                Some(to) => vec![format!("*mut {to}")],
-                None => vec![of.replacen('&', "*const ", 1)],
-            },
-        }
-    }
-
-    /// A function's name, the types of its arguments and of its answer, as they cross.
-    fn signature(text: &str) -> (String, Vec<String>, String) {
-        let text = text.split_whitespace().collect::<Vec<_>>().join(" ");
-        let (name, rest) = text.split_once('(').expect("arguments");
-        let (arguments, answer) = rest.split_once(") -> ").expect("an answer");
-        let types = arguments
-            .split(", ")
-            .filter(|argument| !argument.is_empty())
-            .flat_map(|argument| {
-                let of = argument.split_once(": ").expect("a type").1;
-                crossing(of.trim_end_matches(','))
-            })
-            .collect();
-        (name.into(), types, answer.into())
-    }
-
-    #[test]
-    fn structs_are_the_librarys() {
-        let mut theirs: Vec<_> = DECLARING.into_iter().flat_map(structs).collect();
-        let mut ours = structs(HERE);
-        theirs.sort_unstable();
-        ours.sort_unstable();
-        assert_eq!(ours, theirs);
-    }
-
-    #[test]
-    fn functions_are_the_librarys() {
-        let mut theirs: Vec<_> = LIBRARY
-            .split("\npub extern \"C\" fn ")
-            .skip(1)
-            .map(|rest| signature(rest.split("\n    ensures").next().expect("a contract")))
-            .collect();
-        let block = HERE
-            .split("extern \"C\" {\n")
-            .nth(1)
-            .expect("the declarations");
-        let mut ours: Vec<_> = block
-            .split("\n    }\n")
-            .next()
-            .expect("their end")
-            .split("pub fn ")
-            .skip(1)
-            .map(|rest| signature(rest.rsplit_once(';').expect("its end").0))
-            .collect();
-        theirs.sort_unstable();
-        ours.sort_unstable();
-        assert_eq!(ours, theirs);
-    }
-
-    #[test]
-    fn sizes_and_offsets() {
-        assert_eq!(size_of::<Dialect>(), 24);
-        assert_eq!(offset_of!(Dialect, length), 8);
-        assert_eq!(offset_of!(Dialect, none), 20);
-        assert_eq!(size_of::<FlatEntry>(), 80);
-        assert_eq!(offset_of!(FlatEntry, value_type), 5);
-        assert_eq!(offset_of!(FlatEntry, count), 8);
-        assert_eq!(offset_of!(FlatEntry, next), 56);
-        assert_eq!(size_of::<FlatReader>(), 16);
-        assert_eq!(offset_of!(FlatReader, outcome), 12);
-        assert_eq!(size_of::<FlatStepped>(), 72);
-        assert_eq!(offset_of!(FlatStepped, seqno), 16);
-        assert_eq!(offset_of!(FlatStepped, reader), 56);
-        assert_eq!(size_of::<FlatCount>(), 16);
-        assert_eq!(size_of::<FlatSpan>(), 24);
-        assert_eq!(size_of::<FlatHash>(), 16);
-        assert_eq!(size_of::<Hasher>(), 328);
-        assert_eq!(offset_of!(Hasher, total), 320);
-        assert_eq!(size_of::<Absorbed>(), 336);
-        assert_eq!(offset_of!(Absorbed, state), 8);
-        assert_eq!(size_of::<FlatWriter>(), 32);
-        assert_eq!(offset_of!(FlatWriter, left), 24);
-        assert_eq!(size_of::<FlatReply>(), 48);
-        assert_eq!(offset_of!(FlatReply, writer), 16);
-    }
+    call!(pierloft_write_clear(
+        buf, length, to.dialect, to.writer, seqno, keyspace
+    ))
 }

@@ -1,4 +1,4 @@
-use std::fmt;
+use core::fmt;
 
 /// Why a call was refused, or why no entry can be read: document 01's numbers and names.
 ///
@@ -7,9 +7,13 @@ use std::fmt;
 /// ```
 /// use pierloft::Refusal;
 ///
-/// assert_eq!(Refusal::NoRoom.number(), 27);
-/// assert_eq!(Refusal::NoRoom.to_string(), "27 NO ROOM");
+/// let why = Refusal::NoRoom { left: 12, needed: 40 };
+/// assert_eq!(why.number(), 27);
+/// assert_eq!(why.to_string(), "27 NO ROOM: the buffer has 12 bytes left and 40 are needed");
 /// ```
+///
+/// With the feature `std` it turns into a `std::io::Error`: of kind `InvalidData` where an entry cannot be read, `WriteZero` where there is
+/// no room (as std's own writing into a slice has it), `InvalidInput` otherwise.
 #[derive(Clone, Copy, Debug, PartialEq, Eq, Hash)]
 #[non_exhaustive]
 pub enum Refusal {
@@ -21,14 +25,19 @@ pub enum Refusal {
     State,
     /// 23: a batch was opened with a count above 4,294,967,295.
     Count,
-    /// 24: `open`, `write_raw` or `write_clear` inside a batch; a put or `close` outside one.
+    /// 24: `open`, `write_raw`, `write_clear` or `batch` inside a batch; a put, `close` or `abort` outside one.
     Order,
     /// 25: a key above 65,535 bytes, or an empty key put in a batch.
     Key,
     /// 26: a put with none to come, or `close` with some to come.
     Counted,
     /// 27: the buffer is too short.
-    NoRoom,
+    NoRoom {
+        /// How many bytes the buffer has behind the position.
+        left: usize,
+        /// How many the call needs: for all but an encoder, those of the batch's End too.
+        needed: usize,
+    },
     /// 30: a field of the entry runs past the image.
     Incomplete,
     /// 31: the entry's tag is not 1 to 4.
@@ -46,7 +55,7 @@ pub enum Refusal {
 }
 
 impl Refusal {
-    /// 0 is no refusal.
+    /// 0 is no refusal. Of a call that writes, 27 wants [`with_room`](Refusal::with_room) too.
     #[inline]
     pub(crate) fn of(number: u32) -> Result<(), Refusal> {
         Err(match number {
@@ -58,7 +67,7 @@ impl Refusal {
             24 => Refusal::Order,
             25 => Refusal::Key,
             26 => Refusal::Counted,
-            27 => Refusal::NoRoom,
+            27 => Refusal::NoRoom { left: 0, needed: 0 },
             30 => Refusal::Incomplete,
             31 => Refusal::Tag,
             32 => Refusal::ValueType,
@@ -67,6 +76,14 @@ impl Refusal {
             35 => Refusal::NotAnItem,
             other => Refusal::Unknown(other),
         })
+    }
+
+    /// The library says that there is no room; how much there is and how much is needed is known here.
+    pub(crate) fn with_room(self, left: usize, needed: usize) -> Refusal {
+        match self {
+            Refusal::NoRoom { .. } => Refusal::NoRoom { left, needed },
+            other => other,
+        }
     }
 
     /// Its number in document 01.
@@ -88,7 +105,7 @@ impl Refusal {
             Refusal::Order => (24, "ORDER"),
             Refusal::Key => (25, "KEY"),
             Refusal::Counted => (26, "COUNTED"),
-            Refusal::NoRoom => (27, "NO ROOM"),
+            Refusal::NoRoom { .. } => (27, "NO ROOM"),
             Refusal::Incomplete => (30, "INCOMPLETE"),
             Refusal::Tag => (31, "TAG"),
             Refusal::ValueType => (32, "VALUE TYPE"),
@@ -98,16 +115,58 @@ impl Refusal {
             Refusal::Unknown(number) => (number, "UNKNOWN"),
         }
     }
+
+    /// What is wrong. Where there is no room, figures say more.
+    fn words(self) -> &'static str {
+        match self {
+            Refusal::Dialect => "a magic that is not one, or two types with one code",
+            Refusal::TooLong => "more than 4,294,967,295 bytes",
+            Refusal::State => "a position past the buffer, or a state out of range",
+            Refusal::Count => "a batch of more than 4,294,967,295 entries",
+            Refusal::Order => "a batch is open that has to be closed first, or none is open",
+            Refusal::Key => "a key of more than 65,535 bytes, or an empty one in a batch",
+            Refusal::Counted => "the batch has all of its entries, or not yet all",
+            Refusal::NoRoom { .. } => "the buffer is too short",
+            Refusal::Incomplete => "a field of the entry runs past the image",
+            Refusal::Tag => "the entry's tag is not 1 to 4",
+            Refusal::ValueType => "the item's type code is none of the dialect's",
+            Refusal::Compression => "the item's compression code is not the dialect's",
+            Refusal::Trailer => "the End does not close with the dialect's magic",
+            Refusal::NotAnItem => "a Start, an End and a Clear have no key and no value",
+            Refusal::Unknown(_) => "a number that this crate does not know",
+        }
+    }
 }
 
 impl fmt::Display for Refusal {
     fn fmt(&self, f: &mut fmt::Formatter<'_>) -> fmt::Result {
-        let (number, name) = self.told();
-        write!(f, "{number} {name}")
+        write!(f, "{} {}: ", self.number(), self.name())?;
+        match self {
+            Refusal::NoRoom { left, needed } => {
+                write!(
+                    f,
+                    "the buffer has {left} bytes left and {needed} are needed"
+                )
+            }
+            _ => f.write_str(self.words()),
+        }
     }
 }
 
-impl std::error::Error for Refusal {}
+impl core::error::Error for Refusal {}
+
+#[cfg(feature = "std")]
+impl From<Refusal> for std::io::Error {
+    fn from(why: Refusal) -> std::io::Error {
+        use std::io::ErrorKind;
+        let kind = match why.number() {
+            27 => ErrorKind::WriteZero,
+            30..=34 => ErrorKind::InvalidData,
+            _ => ErrorKind::InvalidInput,
+        };
+        std::io::Error::new(kind, why)
+    }
+}
 
 #[cfg(test)]
 mod tests {

@@ -1,5 +1,7 @@
 use crate::ffi;
 use crate::Refusal;
+use core::fmt;
+use core::hash::Hasher;
 
 /// XXH3-64, seed 0 and the default secret, of at most 4,294,967,295 bytes.
 ///
@@ -27,7 +29,9 @@ pub fn xxh3_64(bytes: &[u8]) -> Result<u64, Refusal> {
 /// assert_eq!(hasher.digest(), xxh3_64(b"claim 4711, settled")?);
 /// # Ok::<(), pierloft::Refusal>(())
 /// ```
-#[derive(Clone, Debug, PartialEq, Eq)]
+///
+/// With the feature `std` it is a `std::io::Write` too, for `std::io::copy` and its like.
+#[derive(Clone, PartialEq, Eq)]
 pub struct Xxh3(ffi::Hasher);
 
 impl Xxh3 {
@@ -62,5 +66,45 @@ impl Xxh3 {
 impl Default for Xxh3 {
     fn default() -> Xxh3 {
         Xxh3::new()
+    }
+}
+
+/// Shows how many bytes were taken in, and nothing of what they were.
+impl fmt::Debug for Xxh3 {
+    fn fmt(&self, f: &mut fmt::Formatter<'_>) -> fmt::Result {
+        f.debug_struct("Xxh3")
+            .field("total", &self.total())
+            .finish_non_exhaustive()
+    }
+}
+
+/// Bytes that are written are taken in as they are. A value that is hashed by `std::hash::Hash` writes what it likes: text, for one, a byte
+/// more than it has, and numbers in the machine's order.
+impl Hasher for Xxh3 {
+    /// # Panics
+    ///
+    /// Where all bytes together exceed 4,294,967,295: this trait has no way to refuse, and going on would give a wrong hash.
+    /// [`Xxh3::update`] refuses.
+    fn write(&mut self, bytes: &[u8]) {
+        if let Err(why) = self.update(bytes) {
+            panic!("{why}");
+        }
+    }
+
+    fn finish(&self) -> u64 {
+        self.digest()
+    }
+}
+
+/// Takes in all that is written, or refuses as [`Xxh3::update`] does.
+#[cfg(feature = "std")]
+impl std::io::Write for Xxh3 {
+    fn write(&mut self, piece: &[u8]) -> std::io::Result<usize> {
+        self.update(piece)?;
+        Ok(piece.len())
+    }
+
+    fn flush(&mut self) -> std::io::Result<()> {
+        Ok(())
     }
 }

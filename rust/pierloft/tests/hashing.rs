@@ -1,5 +1,6 @@
 //! XXH3-64 in one shot and by pieces.
 use pierloft::{xxh3_64, Refusal, Xxh3};
+use std::hash::Hasher;
 
 fn input(length: usize) -> Vec<u8> {
     (0..length as u64)
@@ -57,4 +58,36 @@ fn too_long() {
     assert_eq!(hasher.update(&bytes[1..]), Err(Refusal::TooLong));
     assert_eq!(hasher, came);
     assert_eq!(Ok(hasher.digest()), xxh3_64(b"a"));
+}
+
+/// Through the traits of std: the same hash, and `Debug` that shows nothing of what was hashed.
+#[test]
+fn as_a_hasher() {
+    let bytes = input(1000);
+    let mut hasher = Xxh3::new();
+    for piece in bytes.chunks(300) {
+        Hasher::write(&mut hasher, piece);
+    }
+    assert_eq!(Ok(hasher.finish()), xxh3_64(&bytes));
+    assert_eq!(format!("{hasher:?}"), "Xxh3 { total: 1000, .. }");
+}
+
+#[test]
+#[should_panic(expected = "21 TOO LONG")]
+fn a_hasher_cannot_refuse() {
+    Hasher::write(&mut Xxh3::new(), &vec![0; 1 << 32]);
+}
+
+#[cfg(feature = "std")]
+#[test]
+fn as_a_writer() {
+    use std::io::{copy, ErrorKind, Write};
+    let bytes = input(100_000);
+    let mut hasher = Xxh3::new();
+    assert_eq!(copy(&mut &bytes[..], &mut hasher).unwrap(), 100_000);
+    hasher.flush().unwrap();
+    assert_eq!(Ok(hasher.digest()), xxh3_64(&bytes));
+    let refused = Write::write(&mut hasher, &vec![0; 1 << 32]).unwrap_err();
+    assert_eq!(refused.kind(), ErrorKind::InvalidInput);
+    assert_eq!(hasher.total(), 100_000);
 }

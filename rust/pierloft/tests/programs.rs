@@ -9,15 +9,14 @@ fn sample(name: &str) -> PathBuf {
 }
 
 /// Cargo lays examples beside the folder of the tests.
-fn run(example: &str, words: &[&Path]) -> Output {
+fn program(example: &str) -> Command {
     let here = std::env::current_exe().unwrap();
-    let program = here
-        .ancestors()
-        .nth(2)
-        .unwrap()
-        .join("examples")
-        .join(example);
-    Command::new(program).args(words).output().unwrap()
+    let beside = here.ancestors().nth(2).unwrap();
+    Command::new(beside.join("examples").join(example))
+}
+
+fn run(example: &str, words: &[&Path]) -> Output {
+    program(example).args(words).output().unwrap()
 }
 
 /// A folder of its own to each test, removed at its end.
@@ -63,6 +62,18 @@ fn dump_lists_document_01s_journal() {
     let file = folder.holding("0.jnl", &[]);
     let done = run("dump", &[&file]);
     assert_eq!(done.stdout, b"journal 0 bytes\nend 0 valid 0 kept 0\n");
+}
+
+/// A listing that cannot be written is no outcome.
+#[cfg(target_os = "linux")]
+#[test]
+fn dump_to_a_full_disk() {
+    let full = std::fs::File::create("/dev/full").unwrap();
+    let mut dump = program("dump");
+    let done = dump.arg(sample("claims.jnl")).stdout(full).output();
+    let done = done.unwrap();
+    assert_eq!(done.status.code(), Some(74));
+    assert!(!done.stderr.is_empty());
 }
 
 /// tests/script.sh holds the proved programs to the same files.
@@ -132,4 +143,32 @@ fn recover_copies() {
         assert_eq!(std::fs::read(there).unwrap(), before);
     }
     assert_eq!(std::fs::read(&old).unwrap(), image);
+}
+
+/// What the README shows of the two, in a folder that stands to the samples as this crate does.
+#[test]
+fn as_the_readme_shows() {
+    let readme = include_str!("../../../README.md");
+    let folder = Folder::new("readme");
+    let here = folder.0.join("rust/pierloft");
+    std::fs::create_dir_all(&here).unwrap();
+    std::fs::create_dir(folder.0.join("samples")).unwrap();
+    std::fs::copy(sample("claims.jnl"), folder.0.join("samples/claims.jnl")).unwrap();
+
+    let call = "    $ cargo run -q --release --example ";
+    let mut shown = readme.split(call).skip(1);
+    let mut next = |example: &str| {
+        let (words, rest) = shown.next().unwrap().split_once('\n').unwrap();
+        let words = words.strip_prefix(example).unwrap();
+        let words = words.strip_prefix(" -- ").unwrap();
+        let files = words.split(" | ").next().unwrap().split(' ');
+        let mut program = program(example);
+        let done = program.args(files).current_dir(&here).output().unwrap();
+        let said = String::from_utf8([done.stdout, done.stderr].concat()).unwrap();
+        let last = said.lines().last().unwrap().to_string();
+        assert_eq!(rest.lines().next(), Some(&*format!("    {last}")));
+    };
+    next("recover");
+    next("dump");
+    assert!(shown.next().is_none());
 }
