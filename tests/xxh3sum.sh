@@ -52,7 +52,7 @@ seen=$(wc -l <theirs)
     exit 1
 }
 cmp -s ours theirs || {
-    diff ours theirs | sed 's/^/xxh3sum: /'
+    diff ours theirs | head -n 8 | sed 's/^/xxh3sum: /'
     first=$(diff ours theirs | sed -n 's/^> [0-9a-f]* //p' | head -n 1)
     [ -z "$first" ] || [ "$first" = "$zeros/limit" ] || cp "$first" "$keep"
     exit 1
