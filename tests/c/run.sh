@@ -90,6 +90,11 @@ sh tests/c/batches.sh
 nm --defined-only "$archive" 2>/dev/null | sed -n 's/^.* T //p' | sort >"$out/has"
 sed -n 's/^[a-z].*\b\(pierloft_[a-z0-9_]*\)(.*$/\1/p' include/pierloft.h | sort >"$out/declares"
 diff "$out/has" "$out/declares"
+# which calls nothing else
+[ "$(nm -u "$archive" 2>/dev/null | sed -n 's/^ *U //p' | sort | tr '\n' ' ')" = 'memcpy memset ' ] || {
+    echo 'c: the archive calls something else than memcpy and memset:' && nm -u "$archive"
+    exit 1
+}
 awk '/ checks, / { checks += $2; runs++ } /^link/ { links++ } END { print "c: " runs " programs with " checks " checks, " links " links, each seen to fail with another number" }' "$out/seen"
 echo "c: $(wc -l <"$out/has") functions, $(wc -l <"$out/names.h") enumerators, $(grep -c HELD "$out/layout.h") facts of the layout held"
 [ -z "$missing" ] || {
