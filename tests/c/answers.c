@@ -273,6 +273,64 @@ static void writing(void)
     IS(memcmp(buffer, twin, sizeof buffer) == 0);
 }
 
+/* Every pointer that comes with a length may be null where the length is 0. */
+static void nulls(void)
+{
+    const pierloft_dialect d = pierloft_test();
+    const pierloft_writer empty = {0, 0, 0, 0}, opened = {13, 0, 1, 1};
+    uint8_t buffer[64];
+    pierloft_hasher state = pierloft_hasher_new();
+    IS(pierloft_step(NULL, 0, begin, d).number == 0 && pierloft_decode(NULL, 0, 0, d).number == PIERLOFT_FAULT_INCOMPLETE);
+    IS(is_span(pierloft_key(NULL, 0, 0, d), PIERLOFT_FAULT_INCOMPLETE, 0, 0));
+    IS(is_span(pierloft_value(NULL, 0, 0, d), PIERLOFT_FAULT_INCOMPLETE, 0, 0));
+    IS(pierloft_encode_start(NULL, 0, d, 1, 7).number == PIERLOFT_REFUSED_NO_ROOM);
+    IS(pierloft_encode_item(NULL, 0, d, 0, 2, NULL, 0, NULL, 0).number == PIERLOFT_REFUSED_NO_ROOM);
+    IS(pierloft_encode_item(buffer, sizeof buffer, d, 0, 2, NULL, 0, NULL, 0).bytes == 21);
+    IS(pierloft_encode_end(NULL, 0, d, 7).number == PIERLOFT_REFUSED_NO_ROOM);
+    IS(pierloft_encode_clear(NULL, 0, d, 2).number == PIERLOFT_REFUSED_NO_ROOM);
+    IS(pierloft_open(NULL, 0, d, empty, 1, 7).number == PIERLOFT_REFUSED_NO_ROOM && pierloft_open(NULL, 0, d, empty, 0, 7).number == 0);
+    IS(pierloft_put_item(NULL, 0, d, opened, 0, 2, NULL, 0, NULL, 0).number == PIERLOFT_REFUSED_STATE);
+    IS(pierloft_put_item(buffer, sizeof buffer, d, opened, 0, 2, journal, 1, NULL, 0).bytes == 22);
+    IS(pierloft_put_clear(NULL, 0, d, opened, 2).number == PIERLOFT_REFUSED_STATE);
+    IS(pierloft_close(NULL, 0, d, empty).number == PIERLOFT_REFUSED_ORDER);
+    IS(pierloft_write_raw(NULL, 0, d, empty, 7, 0, 2, NULL, 0, NULL, 0).number == PIERLOFT_REFUSED_NO_ROOM);
+    IS(pierloft_write_raw(buffer, sizeof buffer, d, empty, 7, 0, 2, NULL, 0, NULL, 0).bytes == 47);
+    IS(pierloft_write_clear(NULL, 0, d, empty, 7, 2).number == PIERLOFT_REFUSED_NO_ROOM);
+    IS(pierloft_absorb(state, NULL, 0).number == 0 && pierloft_absorb_into(&state, NULL, 0) == 0);
+    IS(pierloft_absorb_at(state.acc, state.hold, &state.total, NULL, 0) == 0 && state.total == 0);
+}
+
+static pierloft_reader read_to_the_end(const uint8_t *image, size_t length, int *batches)
+{
+    pierloft_reader reader = begin;
+    for (*batches = -1; !reader.ended; ++*batches)
+        reader = pierloft_step(image, length, reader, pierloft_test()).reader;
+    return reader;
+}
+
+/* Resumes as the header says, or without its zeros, behind a torn batch whose value is a batch; answers how many batches are then read. */
+static int resumed(int zeros)
+{
+    enum { CLEAR_BATCH = 13 + 9 + 13, TORN = 13 + 21 + 1 + CLEAR_BATCH };
+    uint8_t planted[CLEAR_BATCH], torn[TORN + 13], buffer[53 + TORN];
+    const size_t length = 50 + TORN;
+    const pierloft_dialect d = pierloft_test();
+    const pierloft_writer empty = {0, 0, 0, 0};
+    int batches;
+    pierloft_write_clear(planted, sizeof planted, d, empty, 99, 9);
+    pierloft_write_raw(torn, sizeof torn, d, empty, 8, PIERLOFT_TYPE_VALUE, 2, journal, 1, planted, sizeof planted);
+    memcpy(buffer, journal, 50);
+    memcpy(buffer + 50, torn, TORN);
+    pierloft_reader reader = read_to_the_end(buffer, length, &batches);
+    IS(batches == 1 && reader.outcome == PIERLOFT_OUTCOME_TORN && reader.position == 50);
+    if (zeros)
+        memset(buffer + reader.position, 0, length - reader.position);
+    pierloft_writer writer = {reader.position, 0, 0, 0};
+    IS(pierloft_write_clear(buffer, length, d, writer, 8, 3).bytes == CLEAR_BATCH);
+    read_to_the_end(buffer, length, &batches);
+    return batches;
+}
+
 int main(void)
 {
     IS(pierloft_abi_1() == PIERLOFT_ABI);
@@ -283,5 +341,8 @@ int main(void)
     hashes();
     encoders();
     writing();
+    nulls();
+    IS(resumed(1) == 2);
+    IS(resumed(0) == 3); /* what was only a value is accepted */
     return checked("answers");
 }
