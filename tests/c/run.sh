@@ -1,7 +1,7 @@
 #!/bin/sh
 # Holds include/pierloft.h to the static library: the structs and the functions' types to the source, every function's answers and every
 # enumerator to the library, the names to the archive, the number of the layout to the linker. With each of gcc and clang, as C99 and C++17, without
-# a warning; and once more with the sanitizers. Status 77 where one of these is not there, with a line that says which.
+# a warning; and each once more with the sanitizers of addresses and undefined behaviour. Status 77 where one of these is not there, with a line that says which.
 set -eu
 cd "$(dirname "$0")/../.."
 . tests/package.sh
@@ -23,67 +23,77 @@ awk -f tests/c/layout.awk crates/dialect/src/lib.rt crates/stream/src/lib.rt cra
 sed -n '/enum.*{/,/}/p' include/pierloft.h | grep -o 'PIERLOFT_[A-Z0-9_]*' | sed 's/.*/NAME(&)/' >"$out/names.h"
 # one call and no more: what refers to the number of the layout is the header alone
 printf '#include "pierloft.h"\nint main(void) { return (int)pierloft_hasher_new().total; }\n' >"$out/one.c"
-objcopy --redefine-sym pierloft_abi_1=pierloft_abi_2 "$archive" "$out/other.a"
+abi=pierloft_abi_$(sed -n 's/^#define PIERLOFT_ABI //p' include/pierloft.h)
+objcopy --redefine-sym "$abi=${abi}0" "$archive" "$out/other.a"
 
 compile() { # COMPILER STANDARD SOURCE ARCHIVE WORDS..
     compiler=$1 standard=$2 source=$3 with=$4
     shift 4
-    language=c
-    case $standard in c++*) language=c++ ;; esac
-    "$compiler" -x "$language" "-std=$standard" -Wall -Wextra -pedantic -Werror "$@" -Iinclude "-I$out" "$source" -x none "$with" \
-        -o "$out/program"
+    "$compiler" -x "${standard%%[0-9]*}" "-std=$standard" -Wall -Wextra -pedantic -Werror "$@" -Iinclude "-I$out" "$source" -x none "$with" \
+        -o "$out/$compiler.program"
 }
 
 answers() { # COMPILER STANDARD PROGRAM WORDS..
-    program=$3
-    compiler=$1 standard=$2
+    compiler=$1 standard=$2 program=$3 said=$out/$1.said
     shift 3
     compile "$compiler" "$standard" "tests/c/$program.c" "$archive" "$@"
-    "$out/program" >"$out/said" 2>&1 || {
+    "$out/$compiler.program" >"$said" 2>&1 || {
         echo "c: $compiler -std=$standard $* tests/c/$program.c:"
-        cat "$out/said"
+        cat "$said"
         exit 1
     }
-    tail -n 1 "$out/said" >>"$out/seen"
+    tail -n 1 "$said" >>"$out/seen"
 }
 
 links() { # COMPILER STANDARD WORDS..: with this library, and not with one of another number
-    compiler=$1 standard=$2
+    compiler=$1 standard=$2 said=$out/$1.said
     shift 2
     compile "$compiler" "$standard" "$out/one.c" "$archive" "$@"
-    if compile "$compiler" "$standard" "$out/one.c" "$out/other.a" "$@" 2>"$out/said"; then
+    if compile "$compiler" "$standard" "$out/one.c" "$out/other.a" "$@" 2>"$said"; then
         echo "c: $compiler -std=$standard $*: links with a library of another number"
         exit 1
     fi
-    grep -q 'undefined reference.*pierloft_abi_1' "$out/said" || {
-        cat "$out/said"
+    grep -q "undefined reference.*$abi\\>" "$said" || {
+        cat "$said"
         exit 1
     }
     echo link >>"$out/seen"
 }
 
-sanitizers='-fsanitize=address,undefined -fno-sanitize-recover=all'
-: >"$out/seen"
-missing=''
-# C++ by the compiler for C: the programs use nothing of its library
-for compiler in gcc clang; do
-    command -v "$compiler" >/dev/null || {
-        missing="$missing $compiler,"
-        continue
+holds() { # COMPILER STANDARD
+    sanitized=-fsanitize=address,undefined
+    compile "$1" "$2" "$out/one.c" "$archive" $sanitized 2>/dev/null || {
+        echo "the sanitizers of $1" >>"$out/missing"
+        sanitized=''
     }
-    for standard in c99 c++17; do
-        for program in answers names pages; do answers "$compiler" "$standard" "$program" -O2; done
-        links "$compiler" "$standard" -O2
+    for program in answers names pages; do
+        answers "$1" "$2" "$program" -O2
+        [ -z "$sanitized" ] || answers "$1" "$2" "$program" -O1 $sanitized -fno-sanitize-recover=all
     done
-    links "$compiler" c11 -O2
-    links "$compiler" c99 -O2 -ffunction-sections -fdata-sections -Wl,--gc-sections
-    # shellcheck disable=SC2086
-    if compile "$compiler" c99 "$out/one.c" "$archive" $sanitizers 2>/dev/null; then
-        for program in answers names pages; do answers "$compiler" c99 "$program" -O1 $sanitizers; done
+    links "$1" "$2" -O2
+    links "$1" "$2" -O2 -ffunction-sections -fdata-sections -Wl,--gc-sections
+}
+
+: >"$out/seen" && : >"$out/missing"
+running=''
+for pair in gcc:c99 g++:c++17 clang:c99 clang++:c++17; do
+    compiler=${pair%:*}
+    if command -v "$compiler" >/dev/null; then
+        holds "$compiler" "${pair#*:}" >"$out/$compiler.log" 2>&1 &
+        running="$running $compiler:$!"
     else
-        missing="$missing the sanitizers of $compiler,"
+        echo "$compiler" >>"$out/missing"
     fi
 done
+failed=''
+for run in $running; do
+    wait "${run#*:}" || {
+        cat "$out/${run%:*}.log"
+        failed=yes
+    }
+done
+[ -z "$failed" ] || exit 1
+links cc c11 -O2
 answers cc c99 stack -O2
 sh tests/c/batches.sh
 
@@ -98,7 +108,7 @@ diff "$out/has" "$out/declares"
 }
 awk '/ checks, / { checks += $2; runs++ } /^link/ { links++ } END { print "c: " runs " programs with " checks " checks, " links " links, each seen to fail with another number" }' "$out/seen"
 echo "c: $(wc -l <"$out/has") functions, $(wc -l <"$out/names.h") enumerators, $(grep -c HELD "$out/layout.h") facts of the layout held"
-[ -z "$missing" ] || {
-    echo "c: not run, since it is not there:${missing%,}"
+[ ! -s "$out/missing" ] || {
+    echo 'c: not run, since it is not there:' && cat "$out/missing"
     exit 77
 }
