@@ -1,17 +1,17 @@
-/* Pierloft: the journal of fjall 3.1.13, uncompressed, proved. The functions of libpierloft.a (`rt staticlib pierloft`, ./install).
+/* Pierloft: the journal of fjall 3.1.13, uncompressed, proved. The functions of libpierloft.a (`rt staticlib pierloft`).
  *
  * Each function's contract is proved; these declarations are not, and tests/c holds them to the library.
  *
- * No function allocates, keeps a pointer, reads a clock or calls the system. There is no shared state: any number of threads may call at once,
- * as long as none writes to what another call is lent. The calls follow the System V convention of x86-64. Each takes less than 4 KiB of stack,
- * its arguments and its answer included: measured, by tests/c/stack.c, and not proved.
+ * No function allocates, keeps a pointer, reads a clock or calls the system. There is no shared state: any number of threads may call at
+ * once, as long as none writes to what another's call is lent. Calls follow the System V convention of x86-64. Each takes less than 4 KiB of
+ * stack, its arguments and its answer included; this is measured (tests/c/stack.c) and not proved.
  *
- * A pointer comes with its length, stays the caller's, and is not used after the call. It must not be null, unless the length is 0. A pointer
- * that comes without one (a hash's state and its parts) is never null. Buffers that a call writes to must not overlap what it reads. No contents,
- * state, position or dialect is forbidden: what is wrong is refused.
+ * A pointer comes with its length, stays the caller's, and is not used after the call. It must not be null, unless the length is 0. The
+ * pointers to a hash's state and to its parts come without a length and must not be null. Buffers that a call writes to must not overlap
+ * what it reads. No contents, state, position or dialect is forbidden: what is wrong is refused.
  *
- * A refused call answers a number, writes no byte and gives the state back as it came; every other field of its answer is 0. What it was lent
- * to write to may then even be read-only.
+ * A refused call answers a number, writes no byte, not even one that stands there already, and gives the state back as it came; every other
+ * field of its answer is 0.
  */
 #ifndef PIERLOFT_H
 #define PIERLOFT_H
@@ -53,7 +53,7 @@ enum {
 enum {
     PIERLOFT_FAULT_INCOMPLETE = 30,  /* a field runs past the image */
     PIERLOFT_FAULT_TAG = 31,         /* a tag that is not 1 to 4 */
-    PIERLOFT_FAULT_VALUE_TYPE = 32,  /* a type code that is none of the dialect's; or a value type handed to a call that is none of the four */
+    PIERLOFT_FAULT_VALUE_TYPE = 32,  /* a type code that is none of the dialect's; or a value type handed over that is none of the four */
     PIERLOFT_FAULT_COMPRESSION = 33, /* a compression code that is not the dialect's */
     PIERLOFT_FAULT_TRAILER = 34,     /* the magic is not there */
     PIERLOFT_FAULT_NOT_AN_ITEM = 35  /* a key or a value asked for at a Start, End or Clear */
@@ -197,15 +197,15 @@ pierloft_count pierloft_encode_clear(uint8_t *buffer, size_t length, pierloft_di
 /* Where a writer stands in its buffer. It starts as {0, 0, 0, 0}; a later call is given the state that the one before it answered. `open` is
  * 0 or not.
  *
- * Old bytes behind the position are read on as the journal's own. A torn batch may hold a whole batch in one of its values: written over by a
- * batch of the right length, it leaves that one standing right behind, and reading accepts it. So a state that is set by hand, {0, 0, 0, 0} on
- * a used buffer too, asks for zeros first, from its position to the end of the buffer. To resume, read the buffer to its end by
- * pierloft_step. Where it ended clean or torn:
+ * Old bytes behind the position are read on as the journal's own. A torn batch may hold a whole batch in one of its values: a new batch of
+ * the right length written over its front leaves that one standing right behind, and reading accepts it. So a state that is set by hand,
+ * {0, 0, 0, 0} on a used buffer too, asks for zeros first, from its position to the end of the buffer. To resume, read the buffer to its end
+ * by pierloft_step. Where that is clean or torn:
  *
  *     memset(buffer + reader.position, 0, length - reader.position);
  *     pierloft_writer writer = {reader.position, 0, 0, 0};
  *
- * Where it ended otherwise, leave all bytes as they are and let a person look. */
+ * Where it is not, leave all bytes as they are: a person must look. */
 typedef struct {
     size_t position;
     size_t start; /* of the open batch */

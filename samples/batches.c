@@ -1,4 +1,4 @@
-/* The accepted batches of a journal on standard input, and how it ends. The status is the outcome, a refusal's number, or one of those below. */
+/* The accepted batches of a journal on standard input, and how it ends. The status is the outcome, a refusal's number, or one of these. */
 #include "pierloft.h"
 #include <inttypes.h>
 #include <stdio.h>
@@ -12,8 +12,8 @@ static int fail(int status, const char *message)
     return status;
 }
 
-/* All bytes of a file, in memory that grows with it; NULL where that is not to be had. Of a file that is too long for the library, as many as
- * it takes to be refused. */
+/* All bytes of a file, in memory that grows with it; NULL where that is not to be had. Of a file that is too long for the library, as many
+ * as it takes to be refused. */
 static uint8_t *read_all(FILE *file, size_t *length)
 {
     const size_t most = (size_t)UINT32_MAX + 1;

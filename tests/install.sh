@@ -1,6 +1,6 @@
 #!/bin/sh
-# The script install: what it puts, that a program is compiled with it by pkg-config, that it takes away what it put, and that it changes nothing
-# where it refuses. Status 77 where there is no C compiler or no pkg-config.
+# The script install: what it puts, that a program is compiled with it by pkg-config, that it takes away what it put, and that it changes
+# nothing where it refuses. Status 77 where there is no C compiler or no pkg-config.
 # shellcheck disable=SC2015
 set -u
 cd "$(dirname "$0")/.." || exit 2
@@ -32,7 +32,8 @@ has() { # FOLDER: the four files and no other, as they are in the source, for ev
     [ "$(cd "$1" && find . -type f | sed 's/^\.\///' | sort)" = "$files" ] || differs "it put $(cd "$1" && find . -type f)"
     cmp "$1/include/pierloft.h" include/pierloft.h && cmp "$1/lib/libpierloft.a" target/staticlib/libpierloft.a &&
         cmp "$1/share/doc/pierloft/NOTICE" NOTICE || differs 'it put another file'
-    [ -z "$(find "$1" -type f ! -perm 644)$(find "$1" -mindepth 1 -type d ! -perm 755)" ] || differs "not for everyone to read: $(ls -lR "$1")"
+    shut=$(find "$1" -mindepth 1 ! \( -type f -perm 644 -o -type d -perm 755 \))
+    [ -z "$shut" ] || differs "not for everyone to read: $shut"
     seen=$((seen + 1))
 }
 
@@ -40,7 +41,8 @@ compiles() { # FOR WORDS..: the sample, far from here, by what pkg-config says i
     what=$1
     shift
     rm -f "$dir/batches"
-    (cd "$dir" && eval "cc $top/samples/batches.c -o batches $(env "$@" pkg-config --cflags --libs pierloft)") || differs "$what: it does not compile"
+    words=$(env "$@" pkg-config --cflags --libs pierloft) || differs "$what: pkg-config does not know it"
+    (cd "$dir" && eval "cc $top/samples/batches.c -o batches $words") || differs "$what: it does not compile"
     "$dir/batches" <samples/claims.jnl >"$dir/out"
     [ $? -eq 1 ] && grep -q '^outcome 1, ' "$dir/out" || differs "$what: the program says '$(cat "$dir/out")'"
     seen=$((seen + 1))
@@ -75,7 +77,8 @@ has "$dir/own place"
 compiles 'PREFIX' "PKG_CONFIG_PATH=$dir/own place/lib/pkgconfig"
 touch "$dir/own place/lib/other"
 PREFIX="$dir/own place" ./install --uninstall || differs "--uninstall: status $?"
-[ "$(cd "$dir/own place" && find . -type f)" = ./lib/other ] && [ ! -d "$dir/own place/share/doc/pierloft" ] || differs '--uninstall leaves something'
+[ "$(find "$dir/own place" -type f)" = "$dir/own place/lib/other" ] && [ ! -d "$dir/own place/share/doc/pierloft" ] ||
+    differs '--uninstall leaves something'
 PREFIX="$dir/own place" ./install --uninstall || differs "--uninstall with nothing there: status $?"
 
 # refused

@@ -159,8 +159,8 @@ unwritten() {
         differs "$1: status $got, '$(cat "$dir/err")', and it should be 74"
 }
 
-# FILE BYTES LENGTH: under TEST, a batch with a value of so many bytes (LENGTH is that number as printf takes its four bytes), and behind it one
-# with a wrong checksum; FILE.txt is its listing
+# FILE BYTES LENGTH: under TEST, a batch with a value of so many bytes (LENGTH is that number as printf takes its four bytes), and behind it
+# one with a wrong checksum; FILE.txt is its listing
 damaged() {
     { printf "\\002\\000\\000\\002\\000\\000\\000\\000\\000\\000\\000\\001\\000$3$3a" && head -c "$2" /dev/zero; } >"$1.item"
     hash=$(./pierloft xxh3sum "$1.item")
@@ -190,7 +190,7 @@ for words in "dump $dir/clean" "dump --test $dir/large" "dump --test $dir/long" 
     [ ! -e /dev/full ] || unwritten "pierloft $words, on a full disk" "./pierloft $words >/dev/full"
     unwritten "pierloft $words, with no standard output" "./pierloft $words >&-"
 done
-unwritten 'pierloft dump, on a disk of 512 bytes' "trap '' XFSZ; ulimit -f 1; ./pierloft dump --test $dir/large >$dir/out 2>$dir/said; got=\$?; cat $dir/said >&2; exit \$got"
+unwritten 'pierloft dump, on a disk of 512 bytes' "trap '' XFSZ; ulimit -f 1; ./pierloft dump --test $dir/large >$dir/out"
 { (trap '' PIPE && ./pierloft dump --test "$dir/large" 2>/dev/null) || echo $? >"$dir/err"; } | head -c 1 >"$dir/out"
 [ "$(cat "$dir/err")" = 74 ] || differs "pierloft dump, not read on: status '$(cat "$dir/err")'"
 seen=$((seen + 1))

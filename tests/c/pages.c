@@ -1,5 +1,5 @@
-/* The library on pages of their own. A refused call stores nothing: what it is lent to write to is read-only here, so that a store, of the same
- * bytes too, ends the process that makes it. And no call looks behind what it is lent: an image here ends where the next page cannot be read. */
+/* The library on pages of their own. A refused call stores nothing: what it is lent to write to is read-only here, so that a store, of the
+ * same bytes too, ends the process that makes it. And no call goes behind what it is lent: the page behind is shut. */
 #define _DEFAULT_SOURCE
 #include "pierloft.h"
 #include "check.h"

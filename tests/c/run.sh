@@ -1,7 +1,8 @@
 #!/bin/sh
 # Holds include/pierloft.h to the static library: the structs and the functions' types to the source, every function's answers and every
-# enumerator to the library, the names to the archive, the number of the layout to the linker. With each of gcc and clang, as C99 and C++17, without
-# a warning; and each once more with the sanitizers of addresses and undefined behaviour. Status 77 where one of these is not there, with a line that says which.
+# enumerator to the library, the names to the archive, the number of the layout to the linker. By gcc and clang, as C99 and C++17, without a
+# warning; and once more with the sanitizers of addresses and of undefined behaviour. Status 77 where one of these is not there, and it says
+# which.
 set -eu
 cd "$(dirname "$0")/../.."
 . tests/package.sh
@@ -19,7 +20,7 @@ if [ ! -f "$archive" ] || [ -n "$(find crates -name '*.rt' -newer "$archive")" ]
         exit 1
     }
 fi
-awk -f tests/c/layout.awk crates/dialect/src/lib.rt crates/stream/src/lib.rt crates/flat/src/lib.rt crates/pierloft/src/lib.rt >"$out/layout.h"
+(cd crates && awk -f ../tests/c/layout.awk dialect/src/lib.rt stream/src/lib.rt flat/src/lib.rt pierloft/src/lib.rt) >"$out/layout.h"
 sed -n '/enum.*{/,/}/p' include/pierloft.h | grep -o 'PIERLOFT_[A-Z0-9_]*' | sed 's/.*/NAME(&)/' >"$out/names.h"
 # one call and no more: what refers to the number of the layout is the header alone
 printf '#include "pierloft.h"\nint main(void) { return (int)pierloft_hasher_new().total; }\n' >"$out/one.c"
@@ -106,7 +107,8 @@ diff "$out/has" "$out/declares"
     echo 'c: the archive calls something else than memcpy and memset:' && nm -u "$archive"
     exit 1
 }
-awk '/ checks, / { checks += $2; runs++ } /^link/ { links++ } END { print "c: " runs " programs with " checks " checks, " links " links, each seen to fail with another number" }' "$out/seen"
+awk '/ checks, / { checks += $2; runs++ }
+    END { print "c: " runs " programs with " checks " checks; " NR - runs " links, each seen to fail with another number" }' "$out/seen"
 echo "c: $(wc -l <"$out/has") functions, $(wc -l <"$out/names.h") enumerators, $(grep -c HELD "$out/layout.h") facts of the layout held"
 [ ! -s "$out/missing" ] || {
     echo 'c: not run, since it is not there:' && cat "$out/missing"

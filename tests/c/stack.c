@@ -25,7 +25,7 @@ static void absorb_into(void) { pierloft_absorb_into(&hasher, bytes, sizeof byte
 static void write_raw(void)
 {
     const pierloft_writer empty = {0, 0, 0, 0};
-    length = pierloft_write_raw(buffer, sizeof buffer, pierloft_test(), empty, 7, PIERLOFT_TYPE_VALUE, 2, bytes, 9, bytes, 1500).writer.position;
+    length = pierloft_write_raw(buffer, sizeof buffer, pierloft_test(), empty, 7, 0, 2, bytes, 9, bytes, 1500).writer.position;
 }
 
 static void close_batch(void)
