@@ -12,8 +12,7 @@ static int fail(int status, const char *message)
     return status;
 }
 
-/* All bytes of a file, in memory that grows with it; NULL where that is not to be had. Of a file that is too long for the library, as many
- * as it takes to be refused. */
+/* A file's bytes, in memory that grows with it, or NULL. Of one that is too long for the library, as many as it takes to be refused. */
 static uint8_t *read_all(FILE *file, size_t *length)
 {
     const size_t most = (size_t)UINT32_MAX + 1;
@@ -51,14 +50,8 @@ static uint32_t show(const uint8_t *image, size_t length, pierloft_stepped batch
     return 0;
 }
 
-int main(void)
+static int list(const uint8_t *image, size_t length)
 {
-    size_t length;
-    uint8_t *image = read_all(stdin, &length);
-    if (image == NULL)
-        return fail(NO_MEMORY, "not enough memory for the journal");
-    if (ferror(stdin))
-        return fail(CANNOT_READ, "standard input cannot be read");
     pierloft_dialect dialect = pierloft_shipped();
     pierloft_reader reader = {0, 0, 0};
     while (!reader.ended) {
@@ -71,6 +64,16 @@ int main(void)
         reader = step.reader;
     }
     printf("outcome %" PRIu32 ", %zu of %zu bytes kept\n", reader.outcome, pierloft_kept(length, reader).bytes, length);
+    return (int)reader.outcome;
+}
+
+int main(void)
+{
+    size_t length;
+    uint8_t *image = read_all(stdin, &length);
+    if (image == NULL)
+        return fail(NO_MEMORY, "not enough memory for the journal");
+    int status = ferror(stdin) ? fail(CANNOT_READ, "standard input cannot be read") : list(image, length);
     free(image);
-    return fflush(stdout) == 0 && !ferror(stdout) ? (int)reader.outcome : fail(CANNOT_WRITE, "standard output cannot be written");
+    return fflush(stdout) == 0 && !ferror(stdout) ? status : fail(CANNOT_WRITE, "standard output cannot be written");
 }

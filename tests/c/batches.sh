@@ -6,7 +6,12 @@ cd "$(dirname "$0")/../.." || exit 2
 out=target/c
 mkdir -p "$out"
 seen=0
-cc -std=c99 -Wall -Wextra -pedantic -Werror -O2 -Iinclude samples/batches.c target/staticlib/libpierloft.a -o "$out/batches" || exit 1
+compile() { # PROGRAM WORDS..
+    program=$1
+    shift
+    cc -std=c99 -Wall -Wextra -pedantic -Werror "$@" -Iinclude samples/batches.c target/staticlib/libpierloft.a -o "$out/$program"
+}
+compile batches -O2 || exit 1
 
 differs() {
     echo "batches: $*"
@@ -35,14 +40,21 @@ while [ $n -lt 100 ]; do
     n=$((n + 1))
 done >"$out/long"
 total=$((kept * 5000))
-says 0 "outcome 0, $total of $total bytes kept" 'a long journal' "$out/batches <$out/long"
 batches=$(($(grep -c '^@' samples/claims.txt) * 5000))
-says 0 "$batches" 'the batches of a long journal' "$out/batches <$out/long | grep -c '^batch'"
-says 0 'outcome 0, 0 of 0 bytes kept' 'nothing' "$out/batches </dev/null"
-says 66 'batches: standard input cannot be read' 'a folder' "$out/batches </"
-says 66 'batches: standard input cannot be read' 'no standard input' "$out/batches <&-"
+calls() { # PROGRAM
+    says 0 "outcome 0, $total of $total bytes kept" 'a long journal' "$1 <$out/long"
+    says 0 "$batches" 'the batches of a long journal' "$1 <$out/long | grep -c '^batch'"
+    says 0 'outcome 0, 0 of 0 bytes kept' 'nothing' "$1 </dev/null"
+    says 1 "outcome 1, $kept of $(wc -c <samples/claims.jnl) bytes kept" 'the sample' "$1 <samples/claims.jnl"
+    says 66 'batches: standard input cannot be read' 'a folder' "$1 </"
+    says 66 'batches: standard input cannot be read' 'no standard input' "$1 <&-"
+    says 74 'batches: standard output cannot be written' 'no standard output' "$1 <$out/one >&-"
+    says 74 'batches: standard output cannot be written' 'a full disk' "$1 <$out/one >/dev/full"
+    says 74 'batches: standard output cannot be written' 'a full disk, noticed early' "$1 <$out/long >/dev/full"
+}
+calls "$out/batches"
 says 70 'batches: not enough memory for the journal' 'no memory' "ulimit -v 65536; head -c 67108864 /dev/zero | $out/batches"
-says 74 'batches: standard output cannot be written' 'no standard output' "$out/batches <$out/one >&-"
-says 74 'batches: standard output cannot be written' 'a full disk' "$out/batches <$out/one >/dev/full"
-says 74 'batches: standard output cannot be written' 'a full disk, noticed early' "$out/batches <$out/long >/dev/full"
+if compile batches.sanitized -O1 -fsanitize=address,undefined -fno-sanitize-recover=all 2>/dev/null; then
+    calls "$out/batches.sanitized"
+fi
 echo "batches: $seen calls answered as they should"
