@@ -22,9 +22,16 @@ if [ ! -f "$archive" ] || [ -n "$(find crates -name '*.rt' -newer "$archive")" ]
 fi
 (cd crates && awk -f ../tests/c/layout.awk dialect/src/lib.rt stream/src/lib.rt flat/src/lib.rt pierloft/src/lib.rt) >"$out/layout.h"
 sed -n '/enum.*{/,/}/p' include/pierloft.h | grep -o 'PIERLOFT_[A-Z0-9_]*' | sed 's/.*/NAME(&)/' >"$out/names.h"
+# each number has one layout: where a struct or a call has changed the number rises, and the sum is set; where a call was added, the sum alone
+number=$(sed -n 's/^#define PIERLOFT_ABI //p' include/pierloft.h)
+sum=$(grep -v like_pierloft_abi "$out/layout.h" | cksum)
+[ "$number: $sum" = '1: 1806980534 9501' ] || {
+    echo "c: the structs and calls are not those that this number of the layout stands for: their sum is $sum"
+    exit 1
+}
 # one call and no more: what refers to the number of the layout is the header alone
 printf '#include "pierloft.h"\nint main(void) { return (int)pierloft_hasher_new().total; }\n' >"$out/one.c"
-abi=pierloft_abi_$(sed -n 's/^#define PIERLOFT_ABI //p' include/pierloft.h)
+abi=pierloft_abi_$number
 objcopy --redefine-sym "$abi=${abi}0" "$archive" "$out/other.a"
 
 compile() { # COMPILER STANDARD SOURCE ARCHIVE WORDS..
