@@ -38,14 +38,15 @@ for size in 1 61 256 1000; do
 done
 
 cd "$dir" || exit 2
-for file in part/* large "$zeros/limit"; do
-    printf '%s %s\n' "$("$ours" <"$file")" "$file"
-done >ours
+set -- part/* large "$zeros/limit"
+for file in "$@"; do
+    "$ours" <"$file"
+done >sums
 wait
-for size in 1 61 256 1000; do
-    printf '%s %s\n' "$(cat slow$size.ours)" "slow$size"
-done >>ours
-xxhsum -q -H3 part/* large "$zeros/limit" slow1 slow61 slow256 slow1000 2>/dev/null | sed 's/XXH3 (\(.*\)) = \(.*\)/\2 \1/' >theirs
+set -- "$@" slow1 slow61 slow256 slow1000
+cat slow1.ours slow61.ours slow256.ours slow1000.ours >>sums
+printf '%s\n' "$@" | paste -d ' ' sums - >ours
+xxhsum -q -H3 "$@" 2>/dev/null | sed 's/XXH3 (\(.*\)) = \(.*\)/\2 \1/' >theirs
 seen=$(wc -l <theirs)
 [ "$seen" -eq 2007 ] || {
     echo "xxh3sum: xxhsum answered $seen of 2,007 files"
