@@ -34,9 +34,10 @@ def library():
     archive = os.path.join(TOP, 'target', 'staticlib', 'libpierloft.a')
     if not os.path.exists(archive):
         subprocess.run(['rt', 'staticlib', 'pierloft'], cwd=TOP, check=True, stdout=subprocess.DEVNULL)
-    shared = os.path.join(tempfile.mkdtemp(), 'pierloft.so')
-    subprocess.run(['cc', '-shared', '-o', shared, '-Wl,--whole-archive', archive, '-Wl,--no-whole-archive'], check=True)
-    lib = c.CDLL(shared)
+    with tempfile.TemporaryDirectory() as folder:
+        shared = os.path.join(folder, 'pierloft.so')
+        subprocess.run(['cc', '-shared', '-o', shared, '-Wl,--whole-archive', archive, '-Wl,--no-whole-archive'], check=True)
+        lib = c.CDLL(shared)
     dialect, reader = STRUCTS['dialect'], STRUCTS['reader']
     lib.pierloft_test.restype = dialect
     lib.pierloft_step.restype = STRUCTS['stepped']
@@ -47,6 +48,8 @@ def library():
     lib.pierloft_decode.argtypes = [c.c_char_p, c.c_size_t, c.c_size_t, dialect]
     lib.pierloft_xxh3_64.restype = STRUCTS['hash']
     lib.pierloft_xxh3_64.argtypes = [c.c_char_p, c.c_size_t]
+    lib.pierloft_write_clear.restype = STRUCTS['reply']
+    lib.pierloft_write_clear.argtypes = [c.c_char_p, c.c_size_t, dialect, STRUCTS['writer'], c.c_uint64, c.c_uint64]
     return lib
 
 
@@ -160,6 +163,18 @@ def inside(low, high):
     return range(low + 1, high)
 
 
+def written(image, position, zeroed):
+    """The image after the library wrote a batch of one Clear at a position, behind which all was or was not set to zero first."""
+    buffer = c.create_string_buffer(image[:position] + bytes(len(image) - position) if zeroed else image, len(image))
+    reply = LIB.pierloft_write_clear(buffer, len(image), TEST, STRUCTS['writer'](position, 0, 0, 0), 10, 5)
+    assert reply.number == 0 and reply.bytes == len(THIRD)
+    return buffer.raw
+
+
+# A batch that was not finished. Its Item's value is itself a batch, and begins where a batch of one Clear written over the Start would end.
+PLANTED = FIRST + start(1, 8) + item(0, 2, b'k', batch(99, clear(9)))
+OLD = THIRD + SECOND
+
 I1, C1, E1 = 13, 13 + len(A), 13 + len(A + B)  # the Item, the Clear and the End of the first batch
 LAW, DEC, STEP, NOT = 'cut', 'decode', 'step', 'none'
 ROWS = [
@@ -221,6 +236,12 @@ ROWS = [
     ('a Clear between two batches', [FIRST + clear(1) + SECOND], STEP),
     ('a batch of another magic behind', [JOURNAL + FIRST[:-1] + b'\x02'], DEC),
     ('a batch with the checksum of another', [start(2, 7) + A + B + SECOND[-13:]], STEP),
+    ('Old bytes behind a writer', None, None),
+    ('a torn batch whose value holds a batch', [PLANTED], STEP),
+    ('the same, a batch written at the last valid position', [written(PLANTED, len(FIRST), False)], NOT),
+    ('the same, all behind that position set to zero first', [written(PLANTED, len(FIRST), True)], LAW),
+    ('a batch written at the front of an old journal of two', [written(OLD, 0, False)], NOT),
+    ('the same, all set to zero first', [written(OLD, 0, True)], LAW),
 ]
 
 

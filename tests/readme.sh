@@ -42,7 +42,8 @@ grep -qxF "    \$ $compile" README.md || {
     exit 1
 }
 $compile || exit 1
-target/batches <samples/claims.jnl >"$out/printed"
+target/batches <samples/claims.jnl >"$out/all"
 [ $? -eq 1 ] || exit 1
-same 'target/batches <samples/claims.jnl' "$out/printed"
+tail -n 5 "$out/all" >"$out/printed"
+same 'target/batches <samples/claims.jnl | tail -n 5' "$out/printed"
 echo 'readme: the sample is listed, by the program and from C, as it says'

@@ -145,10 +145,101 @@ call 0 "$help" ''
 
 # a program that cannot be built: a copy of the script alone, with no toolchain
 mkdir "$dir/alone" "$dir/path" && cp pierloft "$dir/alone/"
-for tool in dirname cat rm mktemp tail; do ln -s "$(command -v $tool)" "$dir/path/$tool"; done
+for tool in dirname tail; do ln -s "$(command -v $tool)" "$dir/path/$tool"; done
 PATH=$dir/path "$dir/alone/pierloft" dump "$dir/clean" >"$dir/out" 2>"$dir/err"
 [ $? -eq 70 ] && grep -q 'not on the PATH' "$dir/err" || differs "with no toolchain: '$(cat "$dir/err")'"
 seen=$((seen + 1))
+
+# MESSAGE COMMAND: what cannot be written is 74, and nothing else is said
+unwritten() {
+    sh -c "$2" 2>"$dir/err"
+    got=$?
+    seen=$((seen + 1))
+    [ $got -eq 74 ] && [ "$(cat "$dir/err")" = 'pierloft: standard output cannot be written' ] ||
+        differs "$1: status $got, '$(cat "$dir/err")', and it should be 74"
+}
+
+# FILE BYTES LENGTH: under TEST, a batch with a value of so many bytes (LENGTH is that number as printf takes its four bytes), and behind it
+# one with a wrong checksum; FILE.txt is its listing
+damaged() {
+    { printf "\\002\\000\\000\\002\\000\\000\\000\\000\\000\\000\\000\\001\\000$3$3a" && head -c "$2" /dev/zero; } >"$1.item"
+    hash=$(./pierloft xxh3sum "$1.item")
+    {
+        start 1 && cat "$1.item" && printf '\003'
+        for digit in 15 13 11 9 7 5 3 1; do # the checksum's bytes, the lowest first
+            printf "\\$(printf %o "0x$(printf %s "$hash" | cut -c $digit-$((digit + 1)))")"
+        done
+        printf 'JL1\001' && start 0 && printf "${zero}JL1\\001"
+    } >"$1"
+    ./pierloft dump --test "$1" >"$1.txt"
+    [ $? -eq 4 ] && [ "$(wc -l <"$1.txt")" -eq 4 ] || differs "a value of $2 bytes: '$(cut -c -60 "$1.txt")'"
+}
+damaged "$dir/small" 300 '\054\001\000\000'
+damaged "$dir/large" 60000 '\140\352\000\000'
+
+# no room for files: none is needed
+(TMPDIR=$dir/none && export TMPDIR && call 4 "$(cat "$dir/large.txt")" '' dump --test "$dir/large") || exit 1
+for file in small large; do
+    { (trap '' XFSZ && ulimit -f 1 && ./pierloft dump --test "$dir/$file"); echo $? >&2; } 2>"$dir/err" | cat >"$dir/out"
+    [ "$(cat "$dir/err")" = 4 ] && cmp "$dir/out" "$dir/$file.txt" || differs "where a file has room for 512 bytes: '$(cat "$dir/err")'"
+done
+seen=$((seen + 3))
+
+# an output that is full, shut, cut, or that nobody reads on
+for words in "dump $dir/clean" "dump --test $dir/large" "dump --test $dir/long" "xxh3sum $dir/item" help; do
+    [ ! -e /dev/full ] || unwritten "pierloft $words, on a full disk" "./pierloft $words >/dev/full"
+    unwritten "pierloft $words, with no standard output" "./pierloft $words >&-"
+done
+unwritten 'pierloft dump, on a disk of 512 bytes' "trap '' XFSZ; ulimit -f 1; ./pierloft dump --test $dir/large >$dir/out"
+{ (trap '' PIPE && ./pierloft dump --test "$dir/large" 2>/dev/null) || echo $? >"$dir/err"; } | head -c 1 >"$dir/out"
+[ "$(cat "$dir/err")" = 74 ] || differs "pierloft dump, not read on: status '$(cat "$dir/err")'"
+seen=$((seen + 1))
+
+# PROGRAM END TEXT [STATUS]: in place of the real program one that reads its input, prints this (as printf takes it) and ends so
+mkdir -p "$dir/fake/target/bin" && cp pierloft "$dir/fake/"
+fake() {
+    printf '#!/bin/sh\ncat >/dev/null\nprintf "%s"\n%s\n' "$3" "$2" >"$dir/fake/target/bin/$1"
+    chmod +x "$dir/fake/target/bin/$1"
+    "$dir/fake/pierloft" "$1" "$dir/clean" >"$dir/out" 2>"$dir/err"
+    got=$?
+    seen=$((seen + 1))
+    [ $got -eq "${4-70}" ] && { [ $got -eq 0 ] || { [ ! -s "$dir/out" ] && grep -q "^pierloft: $dir/clean: " "$dir/err"; }; } ||
+        differs "where $1 prints '$3' and ends by '$2': status $got, '$(cat "$dir/out")', '$(cat "$dir/err")'"
+}
+whole='journal 50 bytes\nend 0 valid 50 kept 50'
+fake dump 'exit 0' "$whole\n" 0
+fake dump 'exit 0' "$whole"
+fake dump 'exit 0' 'journal 50 bytes\nend 0 valid 50 kept \n'
+fake dump 'exit 0' 'journal 50 bytes\nend 0 valid 50\n'
+fake dump 'exit 0' 'journal 50 bytes\nend 5 valid 50 kept 50\n'
+fake dump 'exit 0' 'journal 50 bytes\n@0 seq 7 entries 1\n'
+fake dump 'exit 0' 'end 0 valid 50 kept 50\n'
+fake dump 'exit 0' 'refused 99\n'
+fake dump 'exit 0' 'journal 50 bytes\nrefused 21\n'
+fake dump 'exit 0' 'dd51b14eba25ad58\n'
+fake dump 'exit 0' ''
+fake dump 'exit 1' "$whole\n"
+fake dump 'kill -9 \$\$' "$whole\n"
+fake xxh3sum 'exit 0' 'dd51b14eba25ad58\n' 0
+fake xxh3sum 'exit 0' 'dd51b14eba25ad58'
+fake xxh3sum 'exit 0' 'dd51b14eba25ad5\n'
+fake xxh3sum 'exit 0' 'dd51b14eba25ad5x\n'
+fake xxh3sum 'exit 0' "$whole\n"
+fake xxh3sum 'kill -9 \$\$' 'dd51b14eba25ad58\n'
+fake xxh3sum 'exit 0' '' 66
+
+skipped=''
+# no process more: the shell then ends by a status of its own choice. Only a user who is not root has such a limit.
+as=''
+[ "$(id -u)" -ne 0 ] || as='setpriv --reuid=65534 --regid=65534 --clear-groups'
+chmod 755 "$dir" && cp target/bin/dump "$dir/fake/target/bin/dump"
+if $as true 2>/dev/null; then
+    $as sh -c "ulimit -p 0 2>/dev/null || ulimit -u 0; exec '$dir/fake/pierloft' dump '$dir/clean'" >"$dir/out" 2>"$dir/err"
+    [ $? -eq 70 ] && [ ! -s "$dir/out" ] || differs "where no process can be started: '$(cat "$dir/out")', '$(cat "$dir/err")'"
+    seen=$((seen + 1))
+else
+    skipped=', nor without processes: this is root and setpriv is not there'
+fi
 
 # the samples, as samples/ lists them; at a terminal they are shown where no file is given
 terminal() { # runs the script with a terminal as its standard input
@@ -160,7 +251,6 @@ terminal() { # runs the script with a terminal as its standard input
         return 77
     fi
 }
-skipped=0
 for dialect in '' --test; do
     sample=samples/claims
     [ -z "$dialect" ] || sample=samples/test
@@ -168,7 +258,7 @@ for dialect in '' --test; do
     terminal dump $dialect
     case $? in
     1) ;;
-    77) skipped=1 && continue ;;
+    77) skipped="$skipped, nor at a terminal: neither script nor python3 is there" && continue ;;
     *) differs "pierloft dump $dialect at a terminal: '$(cat "$dir/err")'" ;;
     esac
     cmp "$dir/out" $sample.txt || differs "pierloft dump $dialect at a terminal printed another listing"
@@ -176,7 +266,7 @@ for dialect in '' --test; do
     seen=$((seen + 1))
 done
 echo "script: $seen calls answered as they should"
-[ $skipped -eq 0 ] || {
-    echo 'script: not run at a terminal: neither script nor python3 is there'
+[ -z "$skipped" ] || {
+    echo "script: not run${skipped#, nor}"
     exit 77
 }

@@ -41,7 +41,7 @@ function prototype(text,    f, inner, result, n, part, i, t, list) {
         t = part[i]; sub(/^ *[a-z_]*: */, "", t); sub(/ *$/, "", t)
         if (t != "") list = list (list == "" ? "" : ", ") c_type(t)
     }
-    print result " (*const like_" f ")(" (list == "" ? "void" : list) ") = " f ";"
+    print result " (*like_" f ")(" (list == "" ? "void" : list) ") = " f ";"
     functions++
 }
 /^pub extern "C" fn / { gathering = 1; text = "" }
@@ -69,7 +69,8 @@ name != "" && /^    pub / {
 name != "" && /^}/ {
     sizes[name] = up(at, most); aligns[name] = most
     print "HELD(sizeof(" c ") == " sizes[name] ");"
-    print "HELD(_Alignof(" c ") == " most ");"
+    print "struct aligned_" c " { char before; " c " at; };"
+    print "HELD(offsetof(struct aligned_" c ", at) == " most ");"
     name = ""; repr = 0; structs++
 }
 END { if (!bad && (!structs || !functions)) { print "layout.awk: no struct or no function was found" > "/dev/stderr"; exit 1 } }
