@@ -1,3 +1,6 @@
+use mathlib.Core.Path.{_∙_, ap}
+use mathlib.Core.Bool.{Bool}
+use Rattle.refusal.specs.Refusal.{whenOf, firstOf}
 use Rattle.reader.specs.Reading.{stateRefusal}
 use borrow.Author.Needs.{needs}
 use Rattle.reader.proofs.state_refusal.Statement.{statement}
@@ -26,7 +29,11 @@ first-requires-2 c κs = search needs
 
 returns : tie.Need-returns
 unfolding stateRefusal
-returns c = cc
+returns c =
+    let wrong = c .before .before .when3 .ensures ∙ ap (λ (b : Bool). whenOf b 22) (c .before .before .before .is-strange .ensures) in
+    let placed = c .before .first .ensures ∙ (λ i. firstOf ((c .before .before .before .before .when2 .ensures) i) (wrong i)) in
+    let long = c .before .before .before .before .before .when .ensures ∙ ap (λ (b : Bool). whenOf b 21) (c .before .before .before .before .before .before .above-limit .ensures) in
+    c .first2 .ensures ∙ (λ i. firstOf (long i) (placed i))
 
 pub state-refusal-spec : {M : Type 1} → statement M
 state-refusal-spec =

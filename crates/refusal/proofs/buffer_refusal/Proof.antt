@@ -1,5 +1,7 @@
+use mathlib.Core.Path.{_∙_, ap}
+use mathlib.Core.Bool.{Bool, not}
 use borrow.Author.Needs.{needs}
-use Rattle.refusal.specs.Refusal.{bufferRefusal}
+use Rattle.refusal.specs.Refusal.{whenOf, firstOf, bufferRefusal}
 use Rattle.refusal.proofs.buffer_refusal.Statement.{statement}
 use Rattle.refusal.proofs.buffer_refusal.Tie as tie
 
@@ -20,7 +22,10 @@ first-requires c κs = search needs
 
 returns : tie.Need-returns
 unfolding bufferRefusal
-returns c = cc
+returns c =
+    let bad = c .before .before .before .when .ensures ∙ ap (λ (b : Bool). whenOf (not b) 20) (c .before .before .before .before .is-good .ensures) in
+    let long = c .before .when2 .ensures ∙ ap (λ (b : Bool). whenOf b 21) (c .before .before .above-limit .ensures) in
+    c .first .ensures ∙ (λ i. firstOf (bad i) (long i))
 
 pub buffer-refusal-spec : {M : Type 1} → statement M
 buffer-refusal-spec =
