@@ -4,9 +4,11 @@
 set -eu
 here=$(cd "$(dirname "$0")" && pwd -P)
 top=$(cd "$here/../.." && pwd -P)
-cd "$here"
 FJALL=${FJALL:-$top/../shared/docs/src}
 packages='librust-byteorder-dev librust-xxhash-rust-dev librust-log-dev librust-cfg-if-dev'
+
+# shellcheck source=tests/package.sh
+cd "$top" && . tests/package.sh && cd "$here"
 
 lack() {
     echo "oracle: not run: $*"
@@ -27,7 +29,7 @@ crates() {
     rm -rf target/debs
     mkdir -p target/debs
     # shellcheck disable=SC2086
-    (cd target/debs && { apt-get download $packages || { apt-get update && apt-get download $packages; }; }) >target/debs.log 2>&1 ||
+    (cd target/debs && { apt-get download $packages || { alone apt-get update && apt-get download $packages; }; }) >target/debs.log 2>&1 ||
         lack "the packages $packages cannot be had"
     for deb in target/debs/*.deb; do dpkg -x "$deb" target/debs/unpacked; done
     mv target/debs/unpacked/usr/share/cargo/registry target/vendor
