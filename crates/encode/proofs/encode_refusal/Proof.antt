@@ -1,3 +1,8 @@
+use lib.Dec.{ltb}
+use Prim.Native.Nat.{ℕ, _+_}
+use Rattle.refusal.specs.Refusal.{firstOf, whenOf}
+use mathlib.Core.Bool.{Bool}
+use mathlib.Core.Path.{_∙_, ap}
 use Rattle.encode.specs.Encoding.{encodeRefusal}
 use native.Mathlib.Nat.{sub-zero}
 use borrow.Author.Needs.{needs}
@@ -22,9 +27,14 @@ first-requires c κs = search needs
 first-requires-2 : tie.Need-first-requires-2
 first-requires-2 c κs = search needs
 
+-- the calls' answers put one into another, step by step: `cc` finds the same in many times the time
 returns : tie.Need-returns
 unfolding encodeRefusal
-returns c = cc (sub-zero (c .before .before .before .before .before .before .args .len))
+returns c =
+    let a = c .before .before .before .before .before .before .args in
+    let room = c .before .before .when2 .ensures ∙ ap (λ (b : Bool). whenOf b 27) (c .before .before .before .lacks .ensures ∙ ap (λ (n : ℕ). ltb n (a .fixed + a .magic + a .key + a .value)) (sub-zero (a .len))) in
+    let keyed = c .before .first .ensures ∙ (λ i. firstOf ((c .before .before .before .before .when .ensures) i) (room i)) in
+    c .first2 .ensures ∙ (λ i. firstOf ((c .before .before .before .before .before .buffer-refusal .ensures) i) (keyed i))
 
 pub encode-refusal-spec : {M : Type 1} → statement M
 encode-refusal-spec =

@@ -1,7 +1,10 @@
+use lib.Dec.{ltb}
+use Rattle.refusal.specs.Refusal.{firstOf, whenOf}
+use mathlib.Core.Bool.{Bool}
 use Rattle.writer.specs.Writing.{noRoom, closeRefusal}
 use native.Mathlib.Omega.{arith}
-use Prim.Native.Nat.{_+_}
-use mathlib.Core.Path.{_≡_}
+use Prim.Native.Nat.{_+_, _-_}
+use mathlib.Core.Path.{_≡_, _∙_, ap}
 use borrow.Author.Needs.{needs}
 use Rattle.writer.proofs.close_refusal.Statement.{statement}
 use Rattle.writer.proofs.close_refusal.Tie as tie
@@ -30,12 +33,16 @@ first-requires-2 c κs = search needs
 first-requires-3 : tie.Need-first-requires-3
 first-requires-3 c κs = search needs
 
+-- the calls' answers put one into another, step by step: `cc` finds the same in many times the time
 returns : tie.Need-returns
 unfolding closeRefusal noRoom
 returns c =
     let a = c .before .before .before .before .before .before .before .before .before .before .args in
     let e : 9 + a .d .length + 0 + 0 ≡ 9 + a .d .length = omega arith in
-    cc e
+    let room = c .before .before .before .when3 .ensures ∙ ap (λ (b : Bool). whenOf b 27) (c .before .before .before .before .lacks .ensures ∙ ap (ltb (a .len - a .s .position)) e) in
+    let counted = c .before .before .first .ensures ∙ (λ i. firstOf ((c .before .before .before .before .before .when2 .ensures) i) (room i)) in
+    let ordered = c .before .first2 .ensures ∙ (λ i. firstOf ((c .before .before .before .before .before .before .before .when .ensures) i) (counted i)) in
+    c .first3 .ensures ∙ (λ i. firstOf ((c .before .before .before .before .before .before .before .before .before .shared-refusal .ensures) i) (ordered i))
 
 pub close-refusal-spec : {M : Type 1} → statement M
 close-refusal-spec =

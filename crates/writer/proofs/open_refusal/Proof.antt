@@ -1,3 +1,6 @@
+use Rattle.refusal.specs.Refusal.{firstOf, whenOf}
+use mathlib.Core.Bool.{Bool}
+use mathlib.Core.Path.{_∙_, ap}
 use Rattle.writer.specs.Writing.{openRefusal}
 use borrow.Author.Needs.{needs}
 use Rattle.writer.proofs.open_refusal.Statement.{statement}
@@ -30,9 +33,15 @@ first-requires-2 c κs = search needs
 first-requires-3 : tie.Need-first-requires-3
 first-requires-3 c κs = search needs
 
+-- the calls' answers put one into another, step by step: `cc` finds the same in many times the time
 returns : tie.Need-returns
 unfolding openRefusal
-returns c = cc
+returns c =
+    let room = c .before .before .before .when3 .ensures ∙ ap (λ (b : Bool). whenOf b 27) (c .before .before .before .before .no-room-to-open .ensures) in
+    let many = c .before .before .before .before .before .when2 .ensures ∙ ap (λ (b : Bool). whenOf b 23) (c .before .before .before .before .before .before .above-limit .ensures) in
+    let counted = c .before .before .first .ensures ∙ (λ i. firstOf (many i) (room i)) in
+    let ordered = c .before .first2 .ensures ∙ (λ i. firstOf ((c .before .before .before .before .before .before .before .when .ensures) i) (counted i)) in
+    c .first3 .ensures ∙ (λ i. firstOf ((c .before .before .before .before .before .before .before .before .shared-refusal .ensures) i) (ordered i))
 
 pub open-refusal-spec : {M : Type 1} → statement M
 open-refusal-spec =

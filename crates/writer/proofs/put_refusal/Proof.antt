@@ -1,7 +1,10 @@
+use lib.Dec.{ltb}
+use Rattle.refusal.specs.Refusal.{firstOf, whenOf}
+use mathlib.Core.Bool.{Bool}
 use Rattle.writer.specs.Writing.{noRoom, putRefusal}
 use native.Mathlib.Omega.{arith}
-use Prim.Native.Nat.{_+_}
-use mathlib.Core.Path.{_≡_}
+use Prim.Native.Nat.{_+_, _-_}
+use mathlib.Core.Path.{_≡_, _∙_, ap}
 use borrow.Author.Needs.{needs}
 use Rattle.writer.proofs.put_refusal.Statement.{statement}
 use Rattle.writer.proofs.put_refusal.Tie as tie
@@ -39,12 +42,17 @@ first-requires-3 c κs = search needs
 first-requires-4 : tie.Need-first-requires-4
 first-requires-4 c κs = search needs
 
+-- the calls' answers put one into another, step by step: `cc` finds the same in many times the time
 returns : tie.Need-returns
 unfolding putRefusal noRoom
 returns c =
     let a = c .before .before .before .before .before .before .before .before .before .before .before .before .args in
     let e : a .fixed + 9 + a .d .length + a .key + a .value ≡ a .fixed + a .key + a .value + (9 + a .d .length) = omega arith in
-    cc e
+    let room = c .before .before .before .before .when4 .ensures ∙ ap (λ (b : Bool). whenOf b 27) (c .before .before .before .before .before .lacks .ensures ∙ ap (ltb (a .len - a .s .position)) e) in
+    let keyed = c .before .before .before .first .ensures ∙ (λ i. firstOf ((c .before .before .before .before .before .before .when3 .ensures) i) (room i)) in
+    let counted = c .before .before .first2 .ensures ∙ (λ i. firstOf ((c .before .before .before .before .before .before .before .when2 .ensures) i) (keyed i)) in
+    let ordered = c .before .first3 .ensures ∙ (λ i. firstOf ((c .before .before .before .before .before .before .before .before .before .when .ensures) i) (counted i)) in
+    c .first4 .ensures ∙ (λ i. firstOf ((c .before .before .before .before .before .before .before .before .before .before .before .shared-refusal .ensures) i) (ordered i))
 
 pub put-refusal-spec : {M : Type 1} → statement M
 put-refusal-spec =

@@ -1,3 +1,6 @@
+use Rattle.refusal.specs.Refusal.{firstOf, whenOf}
+use mathlib.Core.Bool.{Bool}
+use mathlib.Core.Path.{_∙_, ap}
 use Rattle.writer.specs.Writing.{sharedRefusal}
 use borrow.Author.Needs.{needs}
 use Rattle.writer.proofs.shared_refusal.Statement.{statement}
@@ -15,9 +18,12 @@ when-requires c κs = search needs
 first-requires : tie.Need-first-requires
 first-requires c κs = search needs
 
+-- the calls' answers put one into another, step by step: `cc` finds the same in many times the time
 returns : tie.Need-returns
 unfolding sharedRefusal
-returns c = cc
+returns c =
+    let range = c .before .when .ensures ∙ ap (λ (b : Bool). whenOf b 22) (c .before .before .out-of-range .ensures) in
+    c .first .ensures ∙ (λ i. firstOf ((c .before .before .before .buffer-refusal .ensures) i) (range i))
 
 pub shared-refusal-spec : {M : Type 1} → statement M
 shared-refusal-spec =

@@ -1,6 +1,7 @@
 -- `xxh3::chunks` meets its contract. Assumes nothing.
-use Prim.Native.Nat.{_≤_, _+_, _*_}
-use mathlib.Core.Path.{_≡_}
+use Rattle.number.specs.Number.{plus}
+use Prim.Native.Nat.{_≤_, _+_, _*_, ℕ, _-_}
+use mathlib.Core.Path.{_≡_, sym, _∙_, ap}
 use native.Mathlib.Omega.{arith}
 use borrow.Author.Needs.{needs}
 use lib.ListN.{length}
@@ -36,18 +37,23 @@ sub-left c = search needs
 loop-less : tie.Need-loop-less Inv-loop μ-loop
 loop-less c = search needs
 
+-- the calls' answers put one into another, step by step: `cc` finds the same in many times the time
 loop-again : tie.Need-loop-again Inv-loop μ-loop
 loop-again c =
     let a = c .before .before .before .before .before .before .args in
     let l = c .before .before .before .loop in
-    (search needs, search needs, cc (chunks-turn (a .k .now) (a .s .now) (l .left) (l .at) (l .key) (l .acc) (search needs)))
+    let e = c .add64 .ensures ∙ ap (plus (l .acc)) (c .before .mix-step .ensures) in (
+      search needs,
+      search needs,
+      ap (chunks (a .k .now) (a .s .now) (l .left - 1) (l .at + 16) (l .key + 16)) e ∙ sym (chunks-turn (a .k .now) (a .s .now) (l .left) (l .at) (l .key) (l .acc) (search needs)) ∙ l .inv .2,
+    )
 
 returns : tie.Need-returns Inv-loop μ-loop
 returns c =
     let a = c .before .before .before .before .args in
     let l = c .before .loop in
     let z : l .left ≡ 0 = omega arith in
-    cc (chunks-done (a .k .now) (a .s .now) (l .at) (l .key) (l .acc))
+    sym (chunks-done (a .k .now) (a .s .now) (l .at) (l .key) (l .acc)) ∙ ap (λ (n : ℕ). chunks (a .k .now) (a .s .now) n (l .at) (l .key) (l .acc)) (sym z) ∙ l .inv .2
 
 pub chunks-spec : {M : Type 1} → statement M
 chunks-spec =

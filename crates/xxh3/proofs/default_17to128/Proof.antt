@@ -1,8 +1,9 @@
 -- `xxh3::default_17to128` meets its contract. Assumes nothing.
-use mathlib.Core.Path.{refl}
+use Rattle.xxh3.specs.Rounds.{roundIf}
+use mathlib.Core.Path.{refl, sym, _∙_, ap}
 use lib.ListN.{length}
 use Rattle.number.specs.Number.{le, times}
-use Rattle.xxh3.specs.Xxh3.{defaultSecret, prime64-1, xxh3-64-17to128}
+use Rattle.xxh3.specs.Xxh3.{defaultSecret, prime64-1, xxh3-64-17to128, avalanche}
 use Rattle.xxh3.proofs.Rounds.{four-rounds}
 use borrow.Author.Needs.{needs}
 use Rattle.xxh3.proofs.default_17to128.Statement.{statement}
@@ -30,11 +31,17 @@ round-default-requires-4 c κs = (search needs, search needs, refl, refl, refl, 
 avalanche-requires : tie.Need-avalanche-requires
 avalanche-requires c κs = search needs
 
+-- the calls' answers put one into another, step by step: `cc` finds the same in many times the time
 returns : tie.Need-returns
 unfolding xxh3-64-17to128
 returns c =
     let a = c .before .before .before .before .before .before .before .args in
-    cc (four-rounds defaultSecret (a .s .now) (times (length (a .s .now)) prime64-1) (search needs) (search needs))
+    let third = c .before .before .before .before .round-default .ensures ∙ ap (roundIf defaultSecret (a .s .now) 3) (c .before .before .before .before .before .mul64 .ensures) in
+    let second = c .before .before .before .round-default2 .ensures ∙ ap (roundIf defaultSecret (a .s .now) 2) third in
+    let first = c .before .before .round-default3 .ensures ∙ ap (roundIf defaultSecret (a .s .now) 1) second in
+    c .avalanche .ensures
+    ∙ ap avalanche
+    (c .before .round-default4 .ensures ∙ ap (roundIf defaultSecret (a .s .now) 0) first ∙ sym (four-rounds defaultSecret (a .s .now) (times (length (a .s .now)) prime64-1) (search needs) (search needs)))
 
 pub default-17to128-spec : {M : Type 1} → statement M
 default-17to128-spec =

@@ -1,5 +1,9 @@
 -- `xxh3::mix_1to3` meets its contract. Assumes nothing.
-use Rattle.xxh3.specs.Xxh3.{combined1to3}
+use Prim.Native.Nat.{_+_, _*_, _^_}
+use lib.ListN.{length}
+use mathlib.Core.Path.{_∙_}
+use lib.Bits.{bitXor}
+use Rattle.xxh3.specs.Xxh3.{combined1to3, avalancheXXH64}
 use borrow.Author.Needs.{needs}
 use Rattle.xxh3.proofs.mix_1to3.Statement.{statement}
 use Rattle.xxh3.proofs.mix_1to3.Tie as tie
@@ -46,9 +50,13 @@ add-combined-3 c = search needs
 avalanche-xxh64-requires : tie.Need-avalanche-xxh64-requires
 avalanche-xxh64-requires c κs = search needs
 
+-- the calls' answers put one into another, step by step: `cc` finds the same in many times the time
 returns : tie.Need-returns
 unfolding combined1to3
-returns c = cc
+returns c =
+    let a = c .before .before .before .before .before .before .before .before .args in
+    c .avalanche-xxh64 .ensures
+    ∙ (λ i. avalancheXXH64 (bitXor (a .word) ((c .before .before .before .before .before .wide8 .ensures .0) i + length (a .s .now) * 2 ^ 8 + (c .before .before .before .wide82 .ensures .0) i * 2 ^ 16 + (c .before .wide83 .ensures .0) i * 2 ^ 24)))
 
 pub mix-1to3-spec : {M : Type 1} → statement M
 mix-1to3-spec =

@@ -1,5 +1,9 @@
 -- `xxh3::mix_9to16` meets its contract. Assumes nothing.
-use Rattle.xxh3.specs.Xxh3.{value9to16}
+use lib.ListN.{length}
+use mathlib.Core.Path.{_∙_, ap}
+use lib.Bits.{bitXor}
+use Rattle.number.specs.Number.{plus, folded, swapped}
+use Rattle.xxh3.specs.Xxh3.{value9to16, avalanche}
 use borrow.Author.Needs.{needs}
 use Rattle.xxh3.proofs.mix_9to16.Statement.{statement}
 use Rattle.xxh3.proofs.mix_9to16.Tie as tie
@@ -31,9 +35,15 @@ add64-requires-3 c κs = search needs
 avalanche-requires : tie.Need-avalanche-requires
 avalanche-requires c κs = search needs
 
+-- the calls' answers put one into another, step by step: `cc` finds the same in many times the time
 returns : tie.Need-returns
 unfolding value9to16
-returns c = cc
+returns c =
+    let a = c .before .before .before .before .before .before .before .before .before .args in
+    let u = c .before .before .before .before .add64 .ensures ∙ ap (plus (length (a .s .now))) (c .before .before .before .before .before .swap64 .ensures ∙ (λ i. swapped 8 (bitXor (a .x) ((c .before .before .before .before .before .before .before .read-u64-le .ensures) i)))) in
+    let v = c .before .before .before .add642 .ensures ∙ (λ i. plus (u i) (bitXor (a .y) ((c .before .before .before .before .before .before .read-u64-le2 .ensures) i))) in
+    let f = c .before .before .fold64 .ensures ∙ (λ i. folded (bitXor (a .x) ((c .before .before .before .before .before .before .before .read-u64-le .ensures) i)) (bitXor (a .y) ((c .before .before .before .before .before .before .read-u64-le2 .ensures) i))) in
+    c .avalanche .ensures ∙ ap avalanche (c .before .add643 .ensures ∙ (λ i. plus (v i) (f i)))
 
 pub mix-9to16-spec : {M : Type 1} → statement M
 mix-9to16-spec =

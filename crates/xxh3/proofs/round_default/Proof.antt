@@ -1,4 +1,6 @@
 -- `xxh3::round_default` meets its contract. Assumes nothing.
+use mathlib.Core.Path.{_∙_}
+use Rattle.number.specs.Number.{plus}
 use borrow.Author.Tests.{le-leb, lt-leb}
 use Rattle.xxh3.specs.Rounds.{roundIf}
 use borrow.Author.Needs.{needs}
@@ -45,9 +47,11 @@ mix-default-requires-2 c κs = search needs
 add64-requires-2 : tie.Need-add64-requires-2
 add64-requires-2 c κs = search needs
 
+-- the calls' answers put one into another, step by step: `cc` finds the same in many times the time
 returns-2 : tie.Need-returns-2
 unfolding roundIf
-returns-2 c = rw (lt-leb _ _ (c .before .before .before .before .if1 .left)) (cc)
+returns-2 c = rw (lt-leb _ _ (c .before .before .before .before .if1 .left))
+    (c .add642 .ensures ∙ (λ i. plus ((c .before .before .add64 .ensures ∙ (λ j. plus (c .before .before .before .before .before .before .args .acc) ((c .before .before .before .mix-default .ensures) j))) i) ((c .before .mix-default2 .ensures) i)))
 
 pub round-default-spec : {M : Type 1} → statement M
 round-default-spec =

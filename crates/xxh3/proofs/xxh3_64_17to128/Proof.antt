@@ -1,9 +1,10 @@
 -- `xxh3::xxh3_64_17to128` meets its contract. Assumes nothing.
-use Prim.Native.Nat.{_≤_, _-_, _/_, _+_}
-use mathlib.Core.Path.{_≡_}
+use Rattle.number.specs.Number.{plus}
+use Prim.Native.Nat.{_≤_, _-_, _/_, _+_, ℕ}
+use mathlib.Core.Path.{_≡_, sym, _∙_, ap}
 use native.Mathlib.Omega.{arith}
 use borrow.Author.Needs.{needs}
-use Rattle.xxh3.specs.Xxh3.{rounds17to128, xxh3-64-17to128}
+use Rattle.xxh3.specs.Xxh3.{rounds17to128, xxh3-64-17to128, avalanche, numRounds}
 use Rattle.xxh3.proofs.Loops.{rounds-turn, rounds-done}
 use Rattle.xxh3.proofs.xxh3_64_17to128.Statement.{statement}
 use Rattle.xxh3.proofs.xxh3_64_17to128.Tie as tie
@@ -65,11 +66,14 @@ add64-requires-2 c κs = search needs
 loop-less : tie.Need-loop-less Inv-loop μ-loop
 loop-less c = search needs
 
+-- the calls' answers put one into another, step by step: `cc` finds the same in many times the time
 loop-again : tie.Need-loop-again Inv-loop μ-loop
 loop-again c =
     let a = c .before .before .before .before .before .before .before .before .before .args in
     let l = c .before .before .before .before .before .loop in
-    (search needs, cc (rounds-turn (a .k .now) (a .s .now) (l .i) (l .acc) (search needs)))
+    let t = c .before .before .add64 .ensures ∙ ap (plus (l .acc)) (c .before .before .before .mix-step .ensures) in
+    let e = c .add642 .ensures ∙ (λ q. plus (t q) ((c .before .mix-step2 .ensures) q)) in
+    (search needs, ap (rounds17to128 (a .k .now) (a .s .now) (l .i - 1)) e ∙ sym (rounds-turn (a .k .now) (a .s .now) (l .i) (l .acc) (search needs)) ∙ l .inv .1)
 
 avalanche-requires : tie.Need-avalanche-requires Inv-loop μ-loop
 avalanche-requires c κs = search needs
@@ -80,7 +84,10 @@ returns c =
     let a = c .before .before .before .before .before .before .args in
     let l = c .before .before .loop in
     let z : l .i ≡ 0 = omega arith in
-    cc (rounds-done (a .k .now) (a .s .now) (l .acc))
+    c .avalanche .ensures
+    ∙ ap avalanche
+    (sym (rounds-done (a .k .now) (a .s .now) (l .acc)) ∙ ap (λ (n : ℕ). rounds17to128 (a .k .now) (a .s .now) n (l .acc)) (sym z) ∙ l .inv .1
+    ∙ ap (rounds17to128 (a .k .now) (a .s .now) (numRounds (a .s .now))) (c .before .before .before .mul64 .ensures))
 
 pub xxh3-64-17to128-spec : {M : Type 1} → statement M
 xxh3-64-17to128-spec =
