@@ -18,7 +18,6 @@ when-requires c κs = search needs
 first-requires : tie.Need-first-requires
 first-requires c κs = search needs
 
--- the calls' answers put one into another, step by step: `cc` finds the same in many times the time
 returns : tie.Need-returns
 unfolding sharedRefusal
 returns c =

@@ -31,7 +31,6 @@ round-default-requires-4 c κs = (search needs, search needs, refl, refl, refl, 
 avalanche-requires : tie.Need-avalanche-requires
 avalanche-requires c κs = search needs
 
--- the calls' answers put one into another, step by step: `cc` finds the same in many times the time
 returns : tie.Need-returns
 unfolding xxh3-64-17to128
 returns c =

@@ -50,7 +50,6 @@ add-combined-3 c = search needs
 avalanche-xxh64-requires : tie.Need-avalanche-xxh64-requires
 avalanche-xxh64-requires c κs = search needs
 
--- the calls' answers put one into another, step by step: `cc` finds the same in many times the time
 returns : tie.Need-returns
 unfolding combined1to3
 returns c =

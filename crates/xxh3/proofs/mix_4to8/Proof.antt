@@ -26,7 +26,6 @@ add-combined c = search needs
 mixed-4to8-requires : tie.Need-mixed-4to8-requires
 mixed-4to8-requires c κs = search needs
 
--- the calls' answers put one into another, step by step: `cc` finds the same in many times the time
 returns : tie.Need-returns
 unfolding combined4to8
 returns c =

@@ -35,7 +35,6 @@ add64-requires-3 c κs = search needs
 avalanche-requires : tie.Need-avalanche-requires
 avalanche-requires c κs = search needs
 
--- the calls' answers put one into another, step by step: `cc` finds the same in many times the time
 returns : tie.Need-returns
 unfolding value9to16
 returns c =

@@ -19,7 +19,6 @@ read-u64-le-requires-2 c κs = search needs
 fold64-requires : tie.Need-fold64-requires
 fold64-requires c κs = search needs
 
--- the calls' answers put one into another, step by step: `cc` finds the same in many times the time
 returns : tie.Need-returns
 unfolding mixStep
 returns c =

@@ -47,7 +47,6 @@ mix-default-requires-2 c κs = search needs
 add64-requires-2 : tie.Need-add64-requires-2
 add64-requires-2 c κs = search needs
 
--- the calls' answers put one into another, step by step: `cc` finds the same in many times the time
 returns-2 : tie.Need-returns-2
 unfolding roundIf
 returns-2 c = rw (lt-leb _ _ (c .before .before .before .before .if1 .left))

@@ -35,7 +35,6 @@ add64-requires c κs = search needs
 avalanche-requires-2 : tie.Need-avalanche-requires-2
 avalanche-requires-2 c κs = search needs
 
--- the calls' answers put one into another, step by step: `cc` finds the same in many times the time
 returns : tie.Need-returns
 unfolding xxh3-64-129to240
 returns c =

@@ -66,7 +66,6 @@ add64-requires-2 c κs = search needs
 loop-less : tie.Need-loop-less Inv-loop μ-loop
 loop-less c = search needs
 
--- the calls' answers put one into another, step by step: `cc` finds the same in many times the time
 loop-again : tie.Need-loop-again Inv-loop μ-loop
 loop-again c =
     let a = c .before .before .before .before .before .before .before .before .before .args in
