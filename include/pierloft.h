@@ -23,8 +23,8 @@
 extern "C" {
 #endif
 
-/* The number of this header's structs and calls. It rises with each change of one, and the function's name with it: whatever includes this
- * header refers to that name, so that it does not link with a library of another number. */
+/* The number of this header's structs and calls. It rises with each change of one, and the function's name with it: whatever gcc or clang
+ * compiles with this header refers to that name, so that it does not link with a library of another number. */
 #define PIERLOFT_ABI 1
 uint32_t pierloft_abi_1(void); /* answers PIERLOFT_ABI */
 
@@ -232,7 +232,7 @@ pierloft_reply pierloft_put_clear(uint8_t *buffer, size_t length, pierloft_diale
 /* Ends the batch, with the checksum of the bytes that then stand between its Start and the position. */
 pierloft_reply pierloft_close(uint8_t *buffer, size_t length, pierloft_dialect dialect, pierloft_writer writer);
 
-/* A whole batch of one entry. An empty key is taken. */
+/* A whole batch of one entry. An empty key is taken. The seqno stands first, where fjall has it last. */
 pierloft_reply pierloft_write_raw(uint8_t *buffer, size_t length, pierloft_dialect dialect, pierloft_writer writer, uint64_t seqno,
                                   uint8_t value_type, uint64_t keyspace, const uint8_t *key, size_t key_length, const uint8_t *value,
                                   size_t value_length);

@@ -92,6 +92,8 @@ mkdir -p "$dir/file/usr/local" "$dir/folder/usr/local/lib/pkgconfig/pierloft.pc"
 touch "$dir/file/usr/local/share"
 refuses 73 'NOTICE cannot be written' "$dir/file" "DESTDIR=$dir/file ./install"
 refuses 73 'pierloft.pc is a folder' "$dir/folder" "DESTDIR=$dir/folder ./install"
+mkdir "$dir/folder/usr/local/include" && touch "$dir/folder/usr/local/include/pierloft.h"
+refuses 73 'pierloft.pc is a folder' "$dir/folder" "DESTDIR=$dir/folder ./install --uninstall"
 refuses 73 'cannot be written' "$dir/none" "trap '' XFSZ; ulimit -f 8; DESTDIR=$dir/none ./install"
 refuses 73 'cannot be written' "$dir/pkg" "trap '' XFSZ; ulimit -f 8; DESTDIR=$dir/pkg ./install"
 

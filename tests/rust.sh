@@ -1,7 +1,7 @@
 #!/bin/sh
 # The Rust crate: its tests, with and without std, warnings of the compiler, of clippy and of rustdoc as errors, layout, the package; then a
-# program that uses it, to see what links and what must not. Status 77 where this machine has no cargo, or no cc, by which it links; what
-# else is missing is said.
+# program that uses it, to see what links and what must not. Status 77 where this machine has no cargo, or no cc, by which it links; and,
+# once all else has passed, where it has no clippy or no rustfmt.
 set -u
 cd "$(dirname "$0")/.." || exit 2
 top=$(pwd -P)
@@ -22,12 +22,13 @@ done
 
 cd "$crate" || exit 2
 export CARGO_NET_OFFLINE=true
+missing=''
 cargo test --quiet || fail 'a test failed'
 RUSTDOCFLAGS='-D warnings' cargo doc --quiet --no-deps || fail 'the documentation has warnings'
 if cargo clippy --version >/dev/null 2>&1; then
     lint() { cargo clippy --quiet --all-targets "$@" -- -D warnings; }
 else
-    say 'clippy is not here; the compiler alone was asked'
+    missing="$missing clippy"
     lint() { RUSTFLAGS='-D warnings' cargo check --quiet --all-targets "$@"; }
 fi
 lint || fail 'warnings'
@@ -36,7 +37,7 @@ cargo test --quiet --no-default-features --lib --test writing || fail 'a test fa
 if cargo fmt --version >/dev/null 2>&1; then
     cargo fmt --check || fail 'the layout is not that of cargo fmt'
 else
-    say 'rustfmt is not here; the layout was not looked at'
+    missing="$missing rustfmt"
 fi
 
 # what a user unpacks: it builds, and has the licences
@@ -94,3 +95,7 @@ for target in aarch64-unknown-linux-gnu x86_64-unknown-linux-gnux32 x86_64-pc-wi
     said 'the library is there for x86-64 alone' cargo check --quiet --target "$target"
 done
 say 'tested with and without std; packaged; an archive of another layout does not link'
+[ -z "$missing" ] || {
+    say "not run, since it is not there:$missing"
+    exit 77
+}

@@ -123,7 +123,11 @@ for word in dump 'dump --test' xxh3sum; do
     seen=$((seen + 1))
 done
 touch "$dir/shut" && chmod 0 "$dir/shut"
-[ -r "$dir/shut" ] || call 66 '' "$dir/shut: cannot be read" dump "$dir/shut"
+if [ -r "$dir/shut" ]; then
+    echo 'script: a file that may not be read was not tried: this user may read all'
+else
+    call 66 '' "$dir/shut: cannot be read" dump "$dir/shut"
+fi
 
 # wrong calls, and help
 call 64 '' 'nothing is not known' nothing
@@ -227,6 +231,13 @@ fake xxh3sum 'exit 0' 'dd51b14eba25ad5x\n'
 fake xxh3sum 'exit 0' "$whole\n"
 fake xxh3sum 'kill -9 \$\$' 'dd51b14eba25ad58\n'
 fake xxh3sum 'exit 0' '' 66
+
+# what hands the journal on to the program is ended before it has, as where one process more cannot be started: that is no journal of no bytes
+mkdir "$dir/ended" && printf '#!/bin/sh\nkill -9 "$PPID"\n' >"$dir/ended/head" && chmod +x "$dir/ended/head"
+PATH=$dir/ended:$PATH ./pierloft dump "$dir/mismatch" >"$dir/out" 2>"$dir/err"
+got=$?
+[ $got -eq 70 ] && [ ! -s "$dir/out" ] || differs "where the journal is not handed on: status $got, '$(cat "$dir/out")', '$(cat "$dir/err")'"
+seen=$((seen + 1))
 
 skipped=''
 # no process more: the shell then ends by a status of its own choice. Only a user who is not root has such a limit.

@@ -70,7 +70,7 @@ links() { # COMPILER STANDARD WORDS..: with this library, and not with one of an
 
 holds() { # COMPILER STANDARD
     sanitized=-fsanitize=address,undefined
-    compile "$1" "$2" "$out/one.c" "$archive" $sanitized 2>/dev/null || {
+    compile "$1" "$2" "$out/none.c" "$archive" $sanitized 2>/dev/null || {
         echo "the sanitizers of $1" >>"$out/missing"
         sanitized=''
     }

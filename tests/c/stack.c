@@ -47,7 +47,32 @@ static void step_anew(void) /* the Item's two lengths differ, so it is hashed by
 }
 
 static void decode(void) { pierloft_decode(buffer, length, 13, pierloft_test()); }
+static void key(void) { pierloft_key(buffer, length, 13, pierloft_test()); }
 static void value(void) { pierloft_value(buffer, length, 13, pierloft_test()); }
+static void body(void) { pierloft_body(length, 13, 13); }
+static void check(void) { pierloft_check(pierloft_shipped()); }
+
+static void kept(void)
+{
+    const pierloft_reader torn = {0, 1, PIERLOFT_OUTCOME_TORN};
+    pierloft_kept(length, torn);
+}
+
+/* over the buffer's second half, where no other call looks */
+enum { HALF = 2048 };
+static uint8_t *const half = buffer + HALF;
+static const pierloft_writer begin_half = {0, 0, 0, 0}, inside = {13, 0, 1, 2};
+
+static void open_batch(void) { pierloft_open(half, HALF, pierloft_test(), begin_half, 2, 7); }
+static void put_item(void) { pierloft_put_item(half, HALF, pierloft_test(), inside, 0, 2, bytes, 9, bytes, 1500); }
+static void put_clear(void) { pierloft_put_clear(half, HALF, pierloft_test(), inside, 2); }
+static void write_clear(void) { pierloft_write_clear(half, HALF, pierloft_test(), begin_half, 7, 2); }
+static void encode_start(void) { pierloft_encode_start(half, HALF, pierloft_test(), 2, 7); }
+static void encode_item(void) { pierloft_encode_item(half, HALF, pierloft_test(), 0, 2, bytes, 9, bytes, 1500); }
+static void encode_end(void) { pierloft_encode_end(half, HALF, pierloft_test(), 7); }
+static void encode_clear(void) { pierloft_encode_clear(half, HALF, pierloft_test(), 2); }
+static void hasher_new(void) { pierloft_hasher_new(); }
+static void abi(void) { pierloft_abi_1(); }
 
 static size_t taken(void (*call)(void))
 {
@@ -67,8 +92,10 @@ static size_t taken(void (*call)(void))
 
 int main(void)
 {
-    void (*const calls[])(void) = {hash,      absorb,      absorb_at, absorb_into, finish, finish_at,
-                                   write_raw, close_batch, step,      step_anew,   decode, value};
+    void (*const calls[])(void) = {hash,       absorb,      absorb_at,   absorb_into, finish,       finish_at,    write_raw,
+                                   close_batch, step,       step_anew,   decode,      key,          value,        body,
+                                   check,      kept,        open_batch,  put_item,    put_clear,    write_clear,  encode_start,
+                                   encode_item, encode_end, encode_clear, hasher_new, abi};
     const size_t none = taken(nothing);
     size_t most = 0;
     hasher = pierloft_hasher_new();

@@ -3,7 +3,8 @@
 //!     cargo run --release --example dump -- [--test] FILE
 //!
 //! The status is the outcome (0 clean, 1 torn, 2 to 4 the errors) or the number of a refusal; 64 for a wrong call, 66 for a file that cannot
-//! be read, 74 where the listing cannot be written.
+//! be read, 74 where the listing cannot be written. A standard output that is shut is none of that: Rust's runtime puts /dev/null there before
+//! `main`, so that the status is the outcome's and no listing was written.
 use pierloft::{batches, Dialect, Entry, Item};
 use std::fmt;
 use std::io::{self, BufWriter, Write};
@@ -17,23 +18,28 @@ fn main() -> ExitCode {
         dialect = Dialect::TEST;
     }
     let [file] = &words[..] else {
-        eprintln!("dump: wants one file: dump [--test] FILE");
+        say(format_args!("wants one file: dump [--test] FILE"));
         return ExitCode::from(64);
     };
     let image = match std::fs::read(file) {
         Ok(image) => image,
         Err(e) => {
-            eprintln!("dump: {}: {e}", file.to_string_lossy());
+            say(format_args!("{}: {e}", file.to_string_lossy()));
             return ExitCode::from(66);
         }
     };
     match list(&image, dialect, BufWriter::new(io::stdout().lock())) {
         Ok(status) => ExitCode::from(status as u8),
         Err(e) => {
-            eprintln!("dump: {e}");
+            say(format_args!("{e}"));
             ExitCode::from(74)
         }
     }
+}
+
+/// A message that cannot be written changes no status, where `eprintln` would panic.
+fn say(what: fmt::Arguments<'_>) {
+    let _ = writeln!(io::stderr(), "dump: {what}");
 }
 
 /// Writes the listing of an image; gives the outcome, or the refusal's number.

@@ -20,13 +20,18 @@ fn main() -> ExitCode {
         dialect = Dialect::TEST;
     }
     let [old, new] = &words[..] else {
-        eprintln!("recover: wants two files: recover [--test] OLD NEW");
+        say(format_args!("wants two files: recover [--test] OLD NEW"));
         return ExitCode::from(64);
     };
     recover(old, new, dialect).unwrap_or_else(|(why, status)| {
-        eprintln!("recover: {why}");
+        say(format_args!("{why}"));
         ExitCode::from(status)
     })
+}
+
+/// A message that cannot be written changes no status, where `eprintln` would panic.
+fn say(what: std::fmt::Arguments<'_>) {
+    let _ = writeln!(std::io::stderr(), "recover: {what}");
 }
 
 fn recover(old: &OsStr, new: &OsStr, dialect: Dialect) -> Result<ExitCode, (String, u8)> {
@@ -46,10 +51,10 @@ fn recover(old: &OsStr, new: &OsStr, dialect: Dialect) -> Result<ExitCode, (Stri
         let _ = std::fs::remove_file(new);
         (format!("{new_name}: {e}"), 73)
     })?;
-    eprintln!(
-        "recover: {old_name}: {outcome}, {kept} of {} bytes kept in {new_name}",
+    say(format_args!(
+        "{old_name}: {outcome}, {kept} of {} bytes kept in {new_name}",
         image.len()
-    );
+    ));
     Ok(ExitCode::from(outcome.number() as u8))
 }
 

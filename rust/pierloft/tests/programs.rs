@@ -76,6 +76,21 @@ fn dump_to_a_full_disk() {
     assert!(!done.stderr.is_empty());
 }
 
+/// A message that cannot be written changes no status.
+#[cfg(target_os = "linux")]
+#[test]
+fn messages_to_a_full_disk() {
+    let folder = Folder::new("messages");
+    let full = || std::fs::File::create("/dev/full").unwrap();
+    let done = program("dump").stderr(full()).status().unwrap();
+    assert_eq!(done.code(), Some(64));
+    let (old, new) = (sample("claims.jnl"), folder.0.join("new.jnl"));
+    let mut recover = program("recover");
+    let done = recover.args([&old, &new]).stderr(full()).status().unwrap();
+    assert_eq!(done.code(), Some(1));
+    assert!(new.is_file());
+}
+
 /// tests/script.sh holds the proved programs to the same files.
 #[test]
 fn dump_lists_the_samples() {

@@ -214,7 +214,7 @@ impl World {
     fn new(seed: u64) -> World {
         let dialect = Dialect::SHIPPED;
         World {
-            numbers: Numbers(seed),
+            numbers: Numbers(seed.max(1)), // 0 would stay 0
             dialect,
             journals: [0, 300].map(|size| Journal::new(size, dialect)),
             hasher: Xxh3::new(),
