@@ -29,6 +29,8 @@ sum=$(grep -v like_pierloft_abi "$out/layout.h" | cksum)
     echo "c: the structs and calls are not those that this number of the layout stands for: their sum is $sum"
     exit 1
 }
+# a program that has nothing of ours: what does not compile it is not there
+echo 'int main(void) { return 0; }' >"$out/none.c"
 # one call and no more: what refers to the number of the layout is the header alone
 printf '#include "pierloft.h"\nint main(void) { return (int)pierloft_hasher_new().total; }\n' >"$out/one.c"
 abi=pierloft_abi_$number
