@@ -1,5 +1,7 @@
 // Numbers and bytes as text in ASCII, each put over the front of a lent part, with the rest of it as it was. Helpers of
 // the dump: no function here is a public call, none refuses, and each assumes room for its text, which its callers prove.
+#![tactic(auto)]
+
 ghost use Rattle.std.specs.Prelude.{◌≡◌, ◌++◌, ◌+◌, ◌≤◌, ◌<◌, length, drop};
 ghost use Rattle.text.specs.Text.{ascii, digit_of, decimal, hexadecimal, or_dash};
 ghost use Rattle.text.specs.Written.{Written};

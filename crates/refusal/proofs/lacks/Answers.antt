@@ -2,37 +2,33 @@ use Prim.Native.Nat.{◌+◌, ◌-◌, ◌<◌}
 use native.Mathlib.Omega.{arith}
 use borrow.Author.Tests.{lt-ltb}
 use Rattle.refusal.proofs.Tests.{ltb_same}
-use Rattle.refusal.proofs.lacks.Statement.{statement}
-use Rattle.refusal.proofs.lacks.Tie as tie
+use Rattle.refusal.proofs.lacks.Goals as goal
 
-returns : tie.Need-returns
+pub returns-then-len-at : goal.returns-then-len-at
+returns-then-len-at c =
+    let a = c.args in
+    let h : a.len - a.at < a.fixed + a.magic + a.key + a.value = omega arith in
+    simp (lt-ltb _ _ h)
+
+pub returns-then-behind-fixed : goal.returns-then-behind-fixed
+returns-then-behind-fixed c =
+    let a = c.args in
+    let h : a.len - a.at < a.fixed + a.magic + a.key + a.value = omega arith in
+    simp (lt-ltb _ _ h)
+
+pub returns-then-more-magic : goal.returns-then-more-magic
+returns-then-more-magic c =
+    let a = c.args in
+    let h : a.len - a.at < a.fixed + a.magic + a.key + a.value = omega arith in
+    simp (lt-ltb _ _ h)
+
+pub returns-then-rest-key : goal.returns-then-rest-key
+returns-then-rest-key c =
+    let a = c.args in
+    let h : a.len - a.at < a.fixed + a.magic + a.key + a.value = omega arith in
+    simp (lt-ltb _ _ h)
+
+pub returns : goal.returns
 returns c =
-    let a = c.before.args in
-    let h : a.len - a.at < a.fixed + a.magic + a.key + a.value = omega arith in
-    simp (lt-ltb _ _ h)
-
-returns-2 : tie.Need-returns-2
-returns-2 c =
-    let a = c.before.before.args in
-    let h : a.len - a.at < a.fixed + a.magic + a.key + a.value = omega arith in
-    simp (lt-ltb _ _ h)
-
-returns-3 : tie.Need-returns-3
-returns-3 c =
-    let a = c.before.before.before.args in
-    let h : a.len - a.at < a.fixed + a.magic + a.key + a.value = omega arith in
-    simp (lt-ltb _ _ h)
-
-returns-4 : tie.Need-returns-4
-returns-4 c =
-    let a = c.before.before.before.before.args in
-    let h : a.len - a.at < a.fixed + a.magic + a.key + a.value = omega arith in
-    simp (lt-ltb _ _ h)
-
-returns-5 : tie.Need-returns-5
-returns-5 c =
-    let a = c.before.before.before.before.args in
+    let a = c.args in
     ltb_same (a.len - a.at - a.fixed - a.magic - a.key) a.value (a.len - a.at) (a.fixed + a.magic + a.key + a.value) (λ p. omega arith) (λ p. omega arith)
-
-pub lacks-spec : {M : Type 1} → statement M
-lacks-spec = tie.close (tie.spec returns returns-2 returns-3 returns-4 returns-5)
