@@ -2,14 +2,12 @@
 -- impossible clause is `absurd (not refl)`. Assumes nothing.
 use Prim.Native.Nat.{ℕ}
 use mathlib.Core.Logic.{◌≢◌}
-use mathlib.Core.List.{List, [], ◌∷◌}
-use mathlib.Core.Bool.{not}
-use lib.Dec.{T}
-use mir.Val.{has_key}
-use types.Run.{OneOf, miss}
+use mathlib.Core.Path.{refl}
+use native.Mathlib.Omega.{arith}
 use denote.Enum.Declared.{tag_of}
 use Rattle.entry.specs.contracts.Decoded.{the_type}
 use Rattle.entry.specs.declared.Decoded.{Decoded}
+use Rattle.entry.specs.declared.Decoded.TheVariants.{Start, Item, End, Clear, Fault, Refused}
 
 abbrev pub tag : Decoded → ℕ
 tag e = tag_of the_type e
@@ -26,19 +24,35 @@ NotEnd e = tag e ≢ 2
 abbrev pub NotClear : Decoded → Type 0
 NotClear e = tag e ≢ 3
 
--- an arm's list of cases, and one that is not among them
-pub not_in : (cases : List ℕ) (t : ℕ) → T (not (has_key cases t)) → (e : Decoded) → OneOf cases (tag e) → tag e ≢ t
-not_in cases t h e o q = miss cases t h (rw q at o)
+-- the arm of a `let .. else` or of a `_`: what it knows of each case that another arm took
+pub not_start : (e : Decoded) → ((c q n : ℕ) → e ≢ Start c q n) → NotStart e
+not_start (Start c q n) h = absurd (h c q n refl)
+not_start (Item ty ks ka kl va vl n) h = λ q. omega (arith, q)
+not_start (End sum n) h = λ q. omega (arith, q)
+not_start (Clear k n) h = λ q. omega (arith, q)
+not_start (Fault f) h = λ q. omega (arith, q)
+not_start (Refused f) h = λ q. omega (arith, q)
 
--- the arm of a `let .. else`: every case but one
-pub not_start : (e : Decoded) → OneOf (1 ∷ 2 ∷ 3 ∷ 4 ∷ 5 ∷ []) (tag e) → NotStart e
-not_start = not_in (1 ∷ 2 ∷ 3 ∷ 4 ∷ 5 ∷ []) 0 tt
+pub not_item : (e : Decoded) → ((ty ks ka kl va vl n : ℕ) → e ≢ Item ty ks ka kl va vl n) → NotItem e
+not_item (Start c q n) h = λ q. omega (arith, q)
+not_item (Item ty ks ka kl va vl n) h = absurd (h ty ks ka kl va vl n refl)
+not_item (End sum n) h = λ q. omega (arith, q)
+not_item (Clear k n) h = λ q. omega (arith, q)
+not_item (Fault f) h = λ q. omega (arith, q)
+not_item (Refused f) h = λ q. omega (arith, q)
 
-pub not_item : (e : Decoded) → OneOf (0 ∷ 2 ∷ 3 ∷ 4 ∷ 5 ∷ []) (tag e) → NotItem e
-not_item = not_in (0 ∷ 2 ∷ 3 ∷ 4 ∷ 5 ∷ []) 1 tt
+pub not_end : (e : Decoded) → ((sum n : ℕ) → e ≢ End sum n) → NotEnd e
+not_end (Start c q n) h = λ q. omega (arith, q)
+not_end (Item ty ks ka kl va vl n) h = λ q. omega (arith, q)
+not_end (End sum n) h = absurd (h sum n refl)
+not_end (Clear k n) h = λ q. omega (arith, q)
+not_end (Fault f) h = λ q. omega (arith, q)
+not_end (Refused f) h = λ q. omega (arith, q)
 
-pub not_end : (e : Decoded) → OneOf (0 ∷ 1 ∷ 3 ∷ 4 ∷ 5 ∷ []) (tag e) → NotEnd e
-not_end = not_in (0 ∷ 1 ∷ 3 ∷ 4 ∷ 5 ∷ []) 2 tt
-
-pub not_clear : (e : Decoded) → OneOf (0 ∷ 1 ∷ 2 ∷ 4 ∷ 5 ∷ []) (tag e) → NotClear e
-not_clear = not_in (0 ∷ 1 ∷ 2 ∷ 4 ∷ 5 ∷ []) 3 tt
+pub not_clear : (e : Decoded) → ((k n : ℕ) → e ≢ Clear k n) → NotClear e
+not_clear (Start c q n) h = λ q. omega (arith, q)
+not_clear (Item ty ks ka kl va vl n) h = λ q. omega (arith, q)
+not_clear (End sum n) h = λ q. omega (arith, q)
+not_clear (Clear k n) h = absurd (h k n refl)
+not_clear (Fault f) h = λ q. omega (arith, q)
+not_clear (Refused f) h = λ q. omega (arith, q)
