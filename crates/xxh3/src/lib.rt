@@ -1,5 +1,7 @@
 // XXH3-64 in one shot, seed 0, after the public xxHash specification, whose names its functions have. The public
 // call is `xxh3_64`. The other `pub` functions serve the crates above: each takes the secret `k` and assumes what it says.
+#![tactic(auto)]
+
 ghost use Rattle.std.specs.Prelude.{◌≡◌, ◌+◌, ◌-◌, ◌*◌, ◌≤◌, ◌<◌, length};
 ghost use Rattle.std.specs.Int.Bits.{bit_xor};
 ghost use Rattle.number.specs.Number.{times, le};
