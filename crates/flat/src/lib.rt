@@ -11,7 +11,7 @@ use writer::{Reply, WriterState};
 use xxh3::Hashed;
 
 #[repr(C)]
-#[derive(Drop)]
+#[derive(Clone, Copy)]
 pub struct FlatEntry {
     pub number: u32,
     pub tag: u8,
@@ -28,7 +28,7 @@ pub struct FlatEntry {
 }
 
 #[repr(C)]
-#[derive(Drop)]
+#[derive(Clone, Copy)]
 pub struct FlatReader {
     pub position: usize,
     pub ended: u32,
@@ -36,7 +36,7 @@ pub struct FlatReader {
 }
 
 #[repr(C)]
-#[derive(Drop)]
+#[derive(Clone, Copy)]
 pub struct FlatStepped {
     pub number: u32,
     pub accepted: u32,
@@ -50,14 +50,14 @@ pub struct FlatStepped {
 }
 
 #[repr(C)]
-#[derive(Drop)]
+#[derive(Clone, Copy)]
 pub struct FlatCount {
     pub number: u32,
     pub bytes: usize,
 }
 
 #[repr(C)]
-#[derive(Drop)]
+#[derive(Clone, Copy)]
 pub struct FlatSpan {
     pub number: u32,
     pub at: usize,
@@ -65,14 +65,14 @@ pub struct FlatSpan {
 }
 
 #[repr(C)]
-#[derive(Drop)]
+#[derive(Clone, Copy)]
 pub struct FlatHash {
     pub number: u32,
     pub hash: u64,
 }
 
 #[repr(C)]
-#[derive(Drop)]
+#[derive(Clone, Copy)]
 pub struct FlatWriter {
     pub position: usize,
     pub start: usize,
@@ -81,7 +81,7 @@ pub struct FlatWriter {
 }
 
 #[repr(C)]
-#[derive(Drop)]
+#[derive(Clone, Copy)]
 pub struct FlatReply {
     pub number: u32,
     pub bytes: usize,

@@ -23,14 +23,14 @@ pub const LONGEST: usize = 65_536;
 pub const ROOM: usize = 4 * LONGEST + 128;
 
 // How many bytes were written, or 20, 21 or 27.
-#[derive(Drop)]
+#[derive(Clone, Copy)]
 pub enum Listed {
     Wrote(usize),
     Refused(u32),
 }
 
 // An entry's line: how many bytes it has, and where the next entry begins.
-#[derive(Drop)]
+#[derive(Clone, Copy)]
 struct Printed {
     pub put: usize,
     pub next: usize,

@@ -17,7 +17,7 @@ fn digit(x: u8) -> u8
 }
 
 // A number's digits, from a place to the end of an array.
-#[derive(Drop)]
+#[derive(Clone, Copy)]
 struct Digits {
     pub text: [u8; 20],
     pub from: usize,

@@ -1,5 +1,7 @@
 // The writer: batches put entry by entry into a lent buffer. A state goes in by value and comes back with the answer.
 // Public: WriterState, Reply, open, put_item, put_clear, close. They refuse by 20, 21, 22, 24, 23, 26, 25, 27, in this order.
+#![tactic(auto)]
+
 ghost use Rattle.std.specs.Prelude.{◌≡◌, not, ◌&&◌, ◌≤◌, ◌<◌, ◌+◌, eqb};
 ghost use Rattle.number.specs.Limit.{limit};
 ghost use Rattle.xxh3.specs.Xxh3.{xxh3_64};
@@ -14,7 +16,7 @@ use refusal::{above_limit, buffer_refusal, first, lacks, when, wrong_key};
 use xxh3::{SECRET, hash_of};
 
 // Where the writer stands: `start` is the place of the open batch's Start, `left` the entries still to come.
-#[derive(Drop)]
+#[derive(Clone, Copy)]
 pub struct WriterState {
     pub position: usize,
     pub start: usize,
@@ -22,7 +24,7 @@ pub struct WriterState {
     pub left: u64,
 }
 
-#[derive(Drop)]
+#[derive(Clone, Copy)]
 pub struct Reply {
     pub state: WriterState,
     pub answer: Answer,

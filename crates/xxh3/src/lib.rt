@@ -31,7 +31,7 @@ pub const SECRET: [u8; 192] = [
 ];
 
 // The checksum, or the number of a refusal.
-#[derive(Drop)]
+#[derive(Clone, Copy)]
 pub enum Hashed {
     Sum(u64),
     Refused(u32),

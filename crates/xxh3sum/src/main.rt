@@ -5,7 +5,7 @@ use stream::Hasher;
 use xxh3::Hashed;
 
 // The number and the state that the last piece gave; whether there may be more, and whether a read failed.
-#[derive(Drop)]
+#[derive(Clone, Copy)]
 struct Progress {
     number: u32,
     state: Hasher,
