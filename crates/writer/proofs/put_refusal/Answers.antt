@@ -1,0 +1,19 @@
+use lib.Dec.{ltb}
+use Rattle.refusal.specs.Refusal.{first_of, when_of}
+use mathlib.Core.Bool.{Bool}
+use Rattle.writer.specs.Writing.{no_room, put_refusal}
+use native.Mathlib.Omega.{arith}
+use Prim.Native.Nat.{◌+◌, ◌-◌}
+use mathlib.Core.Path.{◌≡◌, ◌∙◌, ap}
+use Rattle.writer.proofs.put_refusal.Goals as goal
+
+pub returns : goal.returns
+unfolding put_refusal no_room
+returns c =
+    let a = c.args in
+    let e : a.fixed + 9 + a.d.length + a.key + a.value ≡ a.fixed + a.key + a.value + (9 + a.d.length) = omega arith in
+    let room = c.when-room.ensures ∙ ap (λ (b : Bool). when_of b 27) (c.lacks.ensures ∙ ap (ltb (a.len - a.s.position)) e) in
+    let keyed = c.first.ensures ∙ (λ i. first_of (c.when-bad_key.ensures i) (room i)) in
+    let counted = c.first-2.ensures ∙ (λ i. first_of (c.when-counted.ensures i) (keyed i)) in
+    let ordered = c.first-3.ensures ∙ (λ i. first_of (c.when-order.ensures i) (counted i)) in
+    c.first-4.ensures ∙ (λ i. first_of (c.shared_refusal-shared.ensures i) (ordered i))
