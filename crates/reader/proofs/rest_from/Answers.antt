@@ -4,12 +4,12 @@ use Rattle.entry.specs.Entry.{entry}
 use Rattle.entry.specs.Decoded.{shown}
 use Rattle.reader.specs.Turn.{stands_of, turned}
 use mathlib.Core.Bool.{Bool, ◌&&◌}
-use mathlib.Core.Logic.{⊎_elim}
 use Rattle.reader.proofs.Rest.{walk_begins, walk_ends, walk_on, covers}
 use Rattle.reader.specs.declared.Answer.TheVariants.{Ended}
 use Rattle.reader.specs.declared.Turn.{Turn}
 use mathlib.Core.Path.{◌≡◌, ap, sym, ◌∙◌}
 use native.Mathlib.Omega.{arith}
+use Rattle.reader.proofs.rest_from.Goals.{then-stands, else-stands}
 use Rattle.reader.proofs.rest_from.Goals as goal
 
 pub loop-left-init : goal.loop-left-init
@@ -29,10 +29,14 @@ pub loop-left-preserved : goal.loop-left-preserved
 loop-left-preserved c =
     let a = c.args in
     let l = c.loop-left in
-    let o : Octets a.image.now = λ i. omega (arith, c.shared_slice_known-2-1.given i) in
+    let o : Octets a.image.now = λ i. omega (arith, c.type_inv.image i) in
     let e = shown (run_at (entry a.d) a.image.now l.at) in
     let t : c.turn_at-turn.result ≡ turned a.image.now e = c.turn_at-turn.ensures in
-    let s : c.if-stands.stands ≡ (l.stands && stands_of a.image.now e) = ⊎_elim (λ w. rw (w.0.taken, w.1, t)) (λ w. w.1 ∙ w.0.left ∙ ap (λ (b : Bool). b && stands_of a.image.now e) (sym w.0.left)) c.if-stands.branch in
+    let s : c.if-stands.stands ≡ (l.stands && stands_of a.image.now e) =
+        elim c.if-stands.branch [
+          then-stands w ↦ rw (w.if-stands.true, w.stands-is, t)
+        | else-stands w ↦ w.stands-is ∙ w.if-stands.false ∙ ap (λ (b : Bool). b && stands_of a.image.now e) (sym w.if-stands.false)
+        ] in
     rw (s, t) (walk_on _ _ _ _ _ _ l.at l.left l.stands l.invariant o c.loop-left-test.true (sym (ap (λ (x : Turn). x.outcome) t) ∙ c.if-outcome-ne0.false))
 
 pub close_at-requires : goal.close_at-requires

@@ -6,7 +6,7 @@ use native.Mathlib.Omega.{arith}
 use Rattle.reader.proofs.turn_at.Goals as goal
 
 pub other_turn-requires : goal.other_turn-requires
-other_turn-requires c = let r = c.entry_at-e.result in other r (not_item r c.in-Item.keys2)
+other_turn-requires c = let r = c.entry_at-e.result in other r (not_item r c.in_default.not-Item)
 
 pub returns-in_default : goal.returns-in_default
 returns-in_default c =
@@ -16,14 +16,14 @@ returns-in_default c =
 pub overflow_sub-key_at : goal.overflow_sub-key_at
 overflow_sub-key_at c =
     let a = c.args in
-    let w = placed a.d a.image.now a.at c.requires.0 _ (sym c.e-1.given.1 ∙ c.entry_at-e.ensures) in
+    let w = placed a.d a.image.now a.at c.requires.0 _ (sym c.in-Item.is ∙ c.entry_at-e.ensures) in
     omega arith
 
 pub read_u32_le-announced-requires : goal.read_u32_le-announced-requires
 read_u32_le-announced-requires c =
     let a = c.args in
-    let w = placed a.d a.image.now a.at c.requires.0 _ (sym c.e-1.given.1 ∙ c.entry_at-e.ensures) in
+    let w = placed a.d a.image.now a.at c.requires.0 _ (sym c.in-Item.is ∙ c.entry_at-e.ensures) in
     omega arith
 
 pub returns : goal.returns
-returns c = rw (← c.entry_at-e.ensures, c.e-1.given.1, c.read_u32_le-announced.ensures.0)
+returns c = rw (← c.entry_at-e.ensures, c.in-Item.is, c.read_u32_le-announced.ensures.0)
