@@ -1,6 +1,8 @@
 // The values of the other crates as what crosses to C: structs of numbers. An enum becomes a number and the fields of all its variants, a
 // flag 0 or not. For crate pierloft: the structs; `flat_*`, from a call's answer; `*_of`, from what C hands over; `is_type`, `refused_*`, `span`. None is
 // a public call.
+#![tactic(auto)]
+
 ghost use Rattle.std.specs.Prelude.{◌≡◌, cond, ◌≤◌, leb};
 ghost use Rattle.flat.specs.Flat.{type_number, no_entry, flat_start, flat_item, flat_end, flat_clear, flat_entry, no_batch, reader_of, flat_reader, flat_stepped, refused_count, flat_keep, span_of, flat_hash, type_of, flat_written, writer_of, flat_writer, refused_reply, flat_reply};
 

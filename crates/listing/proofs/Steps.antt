@@ -4,8 +4,7 @@ use mathlib.Core.Path.{◌≡◌, refl, sym, ap, ◌∙◌}
 use mathlib.Core.Bool.{Bool, true, false, cond}
 use mathlib.Core.List.{List, [], ◌∷◌, ◌++◌, append-nil}
 use native.Mathlib.Omega.{arith}
-use types.Run.{OneOf, miss}
-use denote.Enum.Declared.{tag_of}
+use mathlib.Core.Logic.{◌≢◌}
 use lib.ListN.{length, drop}
 use lib.Dec.{leb}
 use borrow.Author.Tests.{le-ltb, leb-true, leb-false}
@@ -19,7 +18,6 @@ use Rattle.dialect.specs.declared.Dialect.{Dialect}
 use Rattle.dialect.specs.Dialect.{good}
 use Rattle.refusal.specs.Refusal.{when_of, first_of}
 use Rattle.entry.specs.Entry.{Put, Stop, fault, void, misplaced, insufficient, too_many, mismatch}
-use Rattle.reader.specs.contracts.Answer.{the_type}
 use Rattle.reader.specs.declared.Answer.{Answer}
 use Rattle.reader.specs.declared.Answer.TheVariants.{Accepted, Ended, Refused}
 use Rattle.reader.specs.declared.Reader.{Reader}
@@ -32,6 +30,10 @@ use Rattle.text.specs.Written.{Begins}
 use Rattle.listing.specs.Listing.{batch_line, state_line, entry_line, entry_lines, reading_lines}
 use Rattle.listing.specs.Walk.{line_of, next_of, lines_at, lines_from}
 use Rattle.reader.specs.Body.{Body, held}
+
+-- what the arm behind that of an accepted batch knows
+abbrev Unaccepted : Answer → Type 0
+Unaccepted a = (seqno count body end next : ℕ) → a ≢ Accepted seqno count body end next
 
 -- the lines of a body, as the code meets them
 lines_of : (d : Dialect) (s : List ℕ) (ps : List Put) (at e : ℕ) → Body d s at ps e → lines_at d s (length ps) at ≡ entry_lines d ps
@@ -100,9 +102,9 @@ module _ (d : Dialect) (s : List ℕ) where
               begins = w.within;
             }
 
-    ended : (a : Answer) → Comes a → OneOf (1 ∷ 2 ∷ []) (tag_of the_type a) → Over p (after (reader p) a)
+    ended : (a : Answer) → Comes a → Unaccepted a → Over p (after (reader p) a)
     unfolding Comes
-    ended (Accepted seqno count body end next) w o = absurd (miss (1 ∷ 2 ∷ []) 0 tt o)
+    ended (Accepted seqno count body end next) w o = absurd (o seqno count body end next refl)
     ended (Ended x) w o = w
     ended (Refused n) w o = absurd w
 
@@ -118,7 +120,7 @@ module _ (d : Dialect) (s : List ℕ) where
         let m : r.reader ≡ after (reader st.position) (Accepted seqno count body end next) = ap (λ (x : Stepped). x.reader) step_is ∙ ap (after (reader st.position)) f in
         rw m (rw f at (comes g l st.position k))
 
-    pub over : OneOf (1 ∷ 2 ∷ []) (tag_of the_type r.answer) → Over st.position r.reader
+    pub over : Unaccepted r.answer → Over st.position r.reader
     over o =
         let m : r.reader ≡ after (reader st.position) (found_at d h s st.position) = ap (λ (x : Stepped). x.reader) step_is in
         rw m (ended g l st.position k (found_at d h s st.position) (comes g l st.position k) (rw step_is at o))

@@ -1,5 +1,7 @@
 // The dump: what a reading of a journal accepts, as text, line by line.
 // Public: list, and its answer Listed.
+#![tactic(auto)]
+
 ghost use Rattle.std.specs.Prelude.{◌≡◌, true, ◌++◌, ◌+◌, ◌≤◌, length, ltb};
 ghost use Rattle.number.specs.Limit.{limit};
 ghost use Rattle.plan.specs.Plan.{run_at};

@@ -1,5 +1,7 @@
 // Batches of one entry, written by one call.
 // Public: write_raw, write_clear. They refuse by 20, 21, 22, 24, 25, 27, in this order.
+#![tactic(auto)]
+
 ghost use Rattle.std.specs.Prelude.{◌≡◌, [], ◌∷◌, ◌≤◌, ◌+◌, length};
 ghost use Rattle.number.specs.Part.{front};
 ghost use Rattle.xxh3.specs.Xxh3.{xxh3_64};
