@@ -1,6 +1,9 @@
 // Lists a journal of the shipped dialect.
-use dialect::Dialect;
+#![tactic(auto)]
 
-fn main() {
-    dumping::dump(Dialect::SHIPPED);
+use dialect::Dialect;
+use std::io;
+
+fn main(rt: HostRuntime) -> io::Result<()> {
+    dumping::dump(&rt, Dialect::SHIPPED)
 }

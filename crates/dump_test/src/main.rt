@@ -1,6 +1,9 @@
 // Lists a journal of the dialect TEST.
-use dialect::Dialect;
+#![tactic(auto)]
 
-fn main() {
-    dumping::dump(Dialect::TEST);
+use dialect::Dialect;
+use std::io;
+
+fn main(rt: HostRuntime) -> io::Result<()> {
+    dumping::dump(&rt, Dialect::TEST)
 }

@@ -1,38 +1,78 @@
 // What the dump programs share: a journal from standard input, listed on standard output.
-// Public: dump.
+// Public: dump, and read_full.
+#![tactic(auto)]
+
+ghost use Rattle.std.specs.Prelude.{◌≡◌, ◌≤◌, ◌<◌, length, take, IfOk, OnOk, IfErr, IfSome};
+ghost use Rattle.std.specs.Io.KnownBytes.{Appends, Consumes, IsAtEnd, Keeps};
+ghost use Rattle.dumping.specs.Dumping.{refused_line, dumped, IsUnread};
+
 use dialect::Dialect;
-use libc::{STDERR_FILENO, STDIN_FILENO, STDOUT_FILENO};
 use listing::{LONGEST, Listed, ROOM, list};
+use std::io::{self, Read, Write};
 
-fn print_refused(number: u32) {
-    io::write_all(STDOUT_FILENO, b"refused ");
-    io::print_decimal(STDOUT_FILENO, number as u64);
-    io::write_all(STDOUT_FILENO, b"\n");
+// Why a journal was not listed.
+#[derive(Debug, Drop)]
+enum Failure {
+    Input(io::Error),
+    Output(io::Error),
 }
 
-// Whether standard input ended by a fault: a read where it ended fails again. What came before says nothing of the journal then, and least of
-// all how much of it to keep.
-fn input_failed() -> bool {
-    let mut byte = [0u8; 1];
-    libc::read(STDIN_FILENO, &mut byte) < 0
-}
-
-// Reads up to one byte more than may be listed, so that a longer journal is refused; the buffer has room for any listing.
-pub fn dump(d: Dialect) {
-    let mut image = [0u8; LONGEST + 1];
-    let n = io::read_full(STDIN_FILENO, &mut image);
-    if n < image.len() {
-        if input_failed() {
-            io::write_all(STDERR_FILENO, b"standard input cannot be read\n");
-            return;
+// Reads until buf is full or the input ends, and answers how many bytes came.
+pub fn read_full<R: Read>(reader: &mut R, buf: &mut [u8]) -> io::Result<usize>
+    ensures bound { IfOk result (λ n. n ≤ length buf.new) }
+    ensures bytes { IfOk result (λ n. Consumes (R.remaining reader.old) (R.remaining reader.new) (take n buf.new)) }
+    ensures end { IfOk result (λ n. n < length buf.new → IsAtEnd (R.remaining reader.new)) }
+{
+    let mut done = 0;
+    while done < buf.len() {
+        let n = reader.read(&mut buf[done..])?;
+        if n == 0 {
+            break;
         }
+        done += n;
     }
+    Ok(done)
+}
+
+fn print_refused<W: Write>(writer: &mut W, number: u32) -> io::Result<()>
+    ensures { OnOk result (Appends (W.contents writer.old) (W.contents writer.new) (refused_line number)) }
+{
+    writeln!(writer, "refused {number}")
+}
+
+fn print_listing<W: Write>(writer: &mut W, image: &[u8], d: Dialect) -> io::Result<()>
+    ensures { OnOk result (Appends (W.contents writer.old) (W.contents writer.new) (dumped d image.now)) }
+{
     let mut out = [0u8; ROOM];
-    let listed = list(&image[..n], d, &mut out);
-    match listed {
-        Listed::Wrote(bytes) => {
-            io::write_all(STDOUT_FILENO, &out[..bytes]);
-        }
-        Listed::Refused(number) => print_refused(number),
+    match list(image, d, &mut out) {
+        Listed::Wrote(bytes) => writer.write_all(&out[..bytes]),
+        Listed::Refused(number) => print_refused(writer, number),
+    }
+}
+
+// Reads up to one byte more than may be listed, so that a longer journal is refused; the buffer has room for any listing. Where a read
+// fails, what came before says nothing of the journal, and least of all how much of it to keep: then nothing is written.
+fn dump_input<R: Read, W: Write>(reader: &mut R, writer: &mut W, d: Dialect) -> Result<(), Failure>
+    ensures ok { OnOk result (IfSome (R.remaining reader.old) (λ s. Appends (W.contents writer.old) (W.contents writer.new) (dumped d s))) }
+    ensures unread { IfErr result (λ e. IsUnread e → Keeps (W.contents writer.old) (W.contents writer.new)) }
+{
+    let mut image = [0u8; LONGEST + 1];
+    let n = match read_full(reader, &mut image) {
+        Ok(n) => n,
+        Err(e) => return Err(Failure::Input(e)),
+    };
+    match print_listing(writer, &image[..n], d) {
+        Ok(()) => Ok(()),
+        Err(e) => Err(Failure::Output(e)),
+    }
+}
+
+pub fn dump(rt: &(impl Input + Print + Eprint), d: Dialect) -> io::Result<()> {
+    let mut input = rt.reader();
+    let mut output = io::writer(rt);
+    match dump_input(&mut input, &mut output, d) {
+        Ok(()) => Ok(()),
+        Err(Failure::Input(_)) => eprintln!(rt; "standard input cannot be read"),
+        Err(Failure::Output(e)) => Err(e),
     }
 }

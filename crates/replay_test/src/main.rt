@@ -1,6 +1,9 @@
 // Replays the images that the Rust was asked about under the dialect TEST: what is printed is held to what the Rust said.
-use dialect::Dialect;
+#![tactic(auto)]
 
-fn main() {
-    replaying::replay(Dialect::TEST);
+use dialect::Dialect;
+use std::io;
+
+fn main(rt: HostRuntime) -> io::Result<()> {
+    replaying::replay(&rt, Dialect::TEST)
 }

@@ -1,10 +1,13 @@
 // What the replay programs share: images from standard input, each behind its length in four bytes, and what the library says of each, on
 // standard output. The files that they are run on were made by the Rust (tests/oracle/list.sh).
 // Public: replay.
+#![tactic(auto)]
+
 use dialect::Dialect;
+use dumping::read_full;
 use entry::{Decoded, decode};
-use libc::{STDIN_FILENO, STDOUT_FILENO};
 use listing::{Listed, list};
+use std::io::{self, Read};
 
 // The fault of the entry at the first byte, or 0.
 fn first_fault(image: &[u8], d: Dialect) -> u32 {
@@ -16,59 +19,65 @@ fn first_fault(image: &[u8], d: Dialect) -> u32 {
     }
 }
 
-fn print_number(name: &[u8], number: u64) {
-    io::write_all(STDOUT_FILENO, name);
-    io::print_decimal(STDOUT_FILENO, number);
+fn print_number(rt: &impl Print, name: &str, number: u64) -> io::Result<()> {
+    print!(rt; "{name}{number}")
 }
 
-fn print_listing(image: &[u8], d: Dialect) {
+fn print_listing(rt: &impl Print, image: &[u8], d: Dialect) -> io::Result<()> {
     let mut out = [0u8; 8320];
     let listed = list(image, d, &mut out);
     match listed {
-        Listed::Wrote(bytes) => {
-            io::write_all(STDOUT_FILENO, &out[..bytes]);
-        }
+        Listed::Wrote(bytes) => rt.write_all(&out[..bytes]),
         Listed::Refused(number) => {
-            print_number(b"refused ", number as u64);
-            io::write_all(STDOUT_FILENO, b"\n");
+            print_number(rt, "refused ", number as u64)?;
+            rt.write_all(b"\n")
         }
     }
 }
 
-fn print_answers(i: u64, image: &[u8], d: Dialect) {
-    print_number(b"image ", i);
-    print_number(b" entry ", first_fault(image, d) as u64);
-    io::write_all(STDOUT_FILENO, b"\n");
-    print_listing(image, d);
+fn print_answers(rt: &impl Print, i: u64, image: &[u8], d: Dialect) -> io::Result<()> {
+    print_number(rt, "image ", i)?;
+    print_number(rt, " entry ", first_fault(image, d) as u64)?;
+    rt.write_all(b"\n")?;
+    print_listing(rt, image, d)
 }
 
-fn print_image(i: u64, image: &mut [u8], d: Dialect) {
-    let n = io::read_full(STDIN_FILENO, image);
-    print_answers(i, &image[..n], d);
+fn print_image(
+    rt: &impl Print,
+    input: &mut impl Read,
+    i: u64,
+    image: &mut [u8],
+    d: Dialect,
+) -> io::Result<()> {
+    let n = read_full(input, image)?;
+    print_answers(rt, i, &image[..n], d)
 }
 
-fn read_length() -> usize {
+fn read_length(input: &mut impl Read) -> io::Result<usize> {
     let mut head = [0u8; 4];
-    if io::read_full(STDIN_FILENO, &mut head) < 4 {
-        return 65536;
+    if read_full(input, &mut head)? < 4 {
+        return Ok(65536);
     }
-    number::read_u32_le(&head, 0) as usize
+    Ok(number::read_u32_le(&head, 0) as usize)
 }
 
 // Image number i, and whether it was there. None is longer than 2,048 bytes.
-fn turn(i: u64, d: Dialect) -> bool {
-    let length = read_length();
+fn turn(rt: &impl Print, input: &mut impl Read, i: u64, d: Dialect) -> io::Result<bool> {
+    let length = read_length(input)?;
     if 2048 < length {
-        return false;
+        return Ok(false);
     }
     let mut image = [0u8; 2048];
-    print_image(i, &mut image[..length], d);
-    true
+    print_image(rt, input, i, &mut image[..length], d)?;
+    Ok(true)
 }
 
-pub fn replay(d: Dialect) {
-    let mut i = 0;
-    while i < 1000 && turn(i, d) {
-        i += 1;
+pub fn replay(rt: &(impl Input + Print), d: Dialect) -> io::Result<()> {
+    let mut input = rt.reader();
+    for i in 0..1000 {
+        if !turn(rt, &mut input, i, d)? {
+            break;
+        }
     }
+    Ok(())
 }

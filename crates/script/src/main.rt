@@ -1,8 +1,10 @@
 // A script of calls over one buffer, accepted and refused. A line to each call: what it answered, the state that it returned, and the
 // bytes that stand between the position it was given and the one it returned. The last line is the whole buffer.
+#![tactic(auto)]
+
 use dialect::{Dialect, ValueType};
 use encode::Answer;
-use libc::STDOUT_FILENO;
+use std::io;
 use writer::{Reply, WriterState};
 
 fn digit(x: u8) -> u8 {
@@ -15,152 +17,208 @@ fn digit(x: u8) -> u8 {
     }
 }
 
-fn print_bytes(s: &[u8]) {
-    for i in 0..s.len() {
-        let b = s[i];
-        let two = [digit(b / 16), digit(b % 16)];
-        io::write_all(STDOUT_FILENO, &two);
+fn print_bytes(rt: &impl Print, s: &[u8]) -> io::Result<()> {
+    for b in s {
+        let two = [digit(*b / 16), digit(*b % 16)];
+        rt.write_all(&two)?;
     }
-    io::write_all(STDOUT_FILENO, b"\n");
+    rt.print("\n")
 }
 
-fn print_between(buf: &[u8], from: usize, to: usize) {
+fn print_between(rt: &impl Print, buf: &[u8], from: usize, to: usize) -> io::Result<()> {
     if from < to && to <= buf.len() {
-        io::write_all(STDOUT_FILENO, b" ");
-        print_bytes(&buf[from..to]);
+        rt.print(" ")?;
+        print_bytes(rt, &buf[from..to])
     } else {
-        io::write_all(STDOUT_FILENO, b" -\n");
+        rt.print(" -\n")
     }
 }
 
-fn print_number(n: u64) {
-    io::write_all(STDOUT_FILENO, b" ");
-    io::print_decimal(STDOUT_FILENO, n);
+fn print_number(rt: &impl Print, n: u64) -> io::Result<()> {
+    print!(rt; " {n}")
 }
 
-fn print_answer(answer: Answer) {
+fn print_answer(rt: &impl Print, answer: Answer) -> io::Result<()> {
     match answer {
         Answer::Wrote(n) => {
-            io::write_all(STDOUT_FILENO, b" wrote");
-            print_number(n as u64);
+            rt.print(" wrote")?;
+            print_number(rt, n as u64)
         }
         Answer::Refused(n) => {
-            io::write_all(STDOUT_FILENO, b" refused");
-            print_number(n as u64);
+            rt.print(" refused")?;
+            print_number(rt, n as u64)
         }
     }
 }
 
-fn print_state(s: WriterState) {
-    io::write_all(STDOUT_FILENO, b" position");
-    print_number(s.position as u64);
-    io::write_all(STDOUT_FILENO, b" start");
-    print_number(s.start as u64);
+fn print_state(rt: &impl Print, s: WriterState) -> io::Result<()> {
+    rt.print(" position")?;
+    print_number(rt, s.position as u64)?;
+    rt.print(" start")?;
+    print_number(rt, s.start as u64)?;
     if s.open {
-        io::write_all(STDOUT_FILENO, b" open");
+        rt.print(" open")?;
     }
-    io::write_all(STDOUT_FILENO, b" left");
-    print_number(s.left);
+    rt.print(" left")?;
+    print_number(rt, s.left)
 }
 
 // Prints a reply to a call that was given the state s, and hands its state on.
-fn told(call: &[u8], buf: &[u8], s: WriterState, reply: Reply) -> WriterState {
+fn told(
+    rt: &impl Print,
+    call: &str,
+    buf: &[u8],
+    s: WriterState,
+    reply: Reply,
+) -> io::Result<WriterState> {
     let next = reply.state;
-    let answer = reply.answer;
-    io::write_all(STDOUT_FILENO, call);
-    print_answer(answer);
-    print_state(next);
-    print_between(buf, s.position, next.position);
-    next
+    rt.print(call)?;
+    print_answer(rt, reply.answer)?;
+    print_state(rt, next)?;
+    print_between(rt, buf, s.position, next.position)?;
+    Ok(next)
 }
 
 // ---- the calls, each with its line
 
-fn open(buf: &mut [u8], d: Dialect, s: WriterState, count: u64) -> WriterState {
+fn open(
+    rt: &impl Print,
+    buf: &mut [u8],
+    d: Dialect,
+    s: WriterState,
+    count: u64,
+) -> io::Result<WriterState> {
     let reply = writer::open(buf, d, s, count, 7);
-    told(b"open:", buf, s, reply)
+    told(rt, "open:", buf, s, reply)
 }
 
-fn put_item(buf: &mut [u8], d: Dialect, s: WriterState, key: &[u8]) -> WriterState {
+fn put_item(
+    rt: &impl Print,
+    buf: &mut [u8],
+    d: Dialect,
+    s: WriterState,
+    key: &[u8],
+) -> io::Result<WriterState> {
     let reply = writer::put_item(buf, d, s, ValueType::Value, 2, key, b"xy");
-    told(b"put_item:", buf, s, reply)
+    told(rt, "put_item:", buf, s, reply)
 }
 
-fn put_clear(buf: &mut [u8], d: Dialect, s: WriterState) -> WriterState {
+fn put_clear(
+    rt: &impl Print,
+    buf: &mut [u8],
+    d: Dialect,
+    s: WriterState,
+) -> io::Result<WriterState> {
     let reply = writer::put_clear(buf, d, s, 2);
-    told(b"put_clear:", buf, s, reply)
+    told(rt, "put_clear:", buf, s, reply)
 }
 
-fn close(buf: &mut [u8], d: Dialect, s: WriterState) -> WriterState {
+fn close(rt: &impl Print, buf: &mut [u8], d: Dialect, s: WriterState) -> io::Result<WriterState> {
     let reply = writer::close(buf, d, s);
-    told(b"close:", buf, s, reply)
+    told(rt, "close:", buf, s, reply)
 }
 
-fn write_raw(buf: &mut [u8], d: Dialect, s: WriterState, key: &[u8]) -> WriterState {
+fn write_raw(
+    rt: &impl Print,
+    buf: &mut [u8],
+    d: Dialect,
+    s: WriterState,
+    key: &[u8],
+) -> io::Result<WriterState> {
     let reply = one_entry::write_raw(buf, d, s, 8, ValueType::Tombstone, 3, key, b"");
-    told(b"write_raw:", buf, s, reply)
+    told(rt, "write_raw:", buf, s, reply)
 }
 
-fn write_clear(buf: &mut [u8], d: Dialect, s: WriterState) -> WriterState {
+fn write_clear(
+    rt: &impl Print,
+    buf: &mut [u8],
+    d: Dialect,
+    s: WriterState,
+) -> io::Result<WriterState> {
     let reply = one_entry::write_clear(buf, d, s, 9, 3);
-    told(b"write_clear:", buf, s, reply)
+    told(rt, "write_clear:", buf, s, reply)
 }
 
 // ---- the script
 
-fn out_of_order(buf: &mut [u8], d: Dialect, s: WriterState) -> WriterState {
-    let a = close(buf, d, s);
-    let b = put_clear(buf, d, a);
-    put_item(buf, d, b, b"a")
+fn out_of_order(
+    rt: &impl Print,
+    buf: &mut [u8],
+    d: Dialect,
+    s: WriterState,
+) -> io::Result<WriterState> {
+    let a = close(rt, buf, d, s)?;
+    let b = put_clear(rt, buf, d, a)?;
+    put_item(rt, buf, d, b, b"a")
 }
 
-fn counts(buf: &mut [u8], d: Dialect, s: WriterState) -> WriterState {
-    let a = open(buf, d, s, 4_294_967_296);
-    let b = open(buf, d, a, 0);
-    open(buf, d, b, 2)
+fn counts(rt: &impl Print, buf: &mut [u8], d: Dialect, s: WriterState) -> io::Result<WriterState> {
+    let a = open(rt, buf, d, s, 4_294_967_296)?;
+    let b = open(rt, buf, d, a, 0)?;
+    open(rt, buf, d, b, 2)
 }
 
-fn inside_a_batch(buf: &mut [u8], d: Dialect, s: WriterState) -> WriterState {
-    let a = open(buf, d, s, 1);
-    let b = write_raw(buf, d, a, b"a");
-    write_clear(buf, d, b)
+fn inside_a_batch(
+    rt: &impl Print,
+    buf: &mut [u8],
+    d: Dialect,
+    s: WriterState,
+) -> io::Result<WriterState> {
+    let a = open(rt, buf, d, s, 1)?;
+    let b = write_raw(rt, buf, d, a, b"a")?;
+    write_clear(rt, buf, d, b)
 }
 
-fn keys(buf: &mut [u8], d: Dialect, s: WriterState) -> WriterState {
+fn keys(rt: &impl Print, buf: &mut [u8], d: Dialect, s: WriterState) -> io::Result<WriterState> {
     let long = [0x6Bu8; 65_536];
-    let a = close(buf, d, s);
-    let b = put_item(buf, d, a, b"");
-    put_item(buf, d, b, &long)
+    let a = close(rt, buf, d, s)?;
+    let b = put_item(rt, buf, d, a, b"")?;
+    put_item(rt, buf, d, b, &long)
 }
 
-fn entries(buf: &mut [u8], d: Dialect, s: WriterState) -> WriterState {
-    let a = put_item(buf, d, s, b"a");
-    let b = put_clear(buf, d, a);
-    put_item(buf, d, b, b"")
+fn entries(rt: &impl Print, buf: &mut [u8], d: Dialect, s: WriterState) -> io::Result<WriterState> {
+    let a = put_item(rt, buf, d, s, b"a")?;
+    let b = put_clear(rt, buf, d, a)?;
+    put_item(rt, buf, d, b, b"")
 }
 
-fn close_and_one(buf: &mut [u8], d: Dialect, s: WriterState) -> WriterState {
+fn close_and_one(
+    rt: &impl Print,
+    buf: &mut [u8],
+    d: Dialect,
+    s: WriterState,
+) -> io::Result<WriterState> {
     let long = [0x6Bu8; 65_536];
-    let a = close(buf, d, s);
-    let b = write_raw(buf, d, a, &long);
-    write_raw(buf, d, b, b"")
+    let a = close(rt, buf, d, s)?;
+    let b = write_raw(rt, buf, d, a, &long)?;
+    write_raw(rt, buf, d, b, b"")
 }
 
 // The last batch takes exactly what is left: its Clear fits where an Item does not.
-fn to_the_end(buf: &mut [u8], d: Dialect, s: WriterState) -> WriterState {
-    let a = write_clear(buf, d, s);
-    let b = open(buf, d, a, 1);
-    let c = put_item(buf, d, b, b"a");
-    put_clear(buf, d, c)
+fn to_the_end(
+    rt: &impl Print,
+    buf: &mut [u8],
+    d: Dialect,
+    s: WriterState,
+) -> io::Result<WriterState> {
+    let a = write_clear(rt, buf, d, s)?;
+    let b = open(rt, buf, d, a, 1)?;
+    let c = put_item(rt, buf, d, b, b"a")?;
+    put_clear(rt, buf, d, c)
 }
 
-fn no_more_room(buf: &mut [u8], d: Dialect, s: WriterState) -> WriterState {
-    let a = close(buf, d, s);
-    let b = open(buf, d, a, 1);
-    write_clear(buf, d, b)
+fn no_more_room(
+    rt: &impl Print,
+    buf: &mut [u8],
+    d: Dialect,
+    s: WriterState,
+) -> io::Result<WriterState> {
+    let a = close(rt, buf, d, s)?;
+    let b = open(rt, buf, d, a, 1)?;
+    write_clear(rt, buf, d, b)
 }
 
-fn made_up(buf: &mut [u8], d: Dialect) {
+fn made_up(rt: &impl Print, buf: &mut [u8], d: Dialect) -> io::Result<()> {
     let past = WriterState {
         position: 177,
         start: 0,
@@ -179,12 +237,13 @@ fn made_up(buf: &mut [u8], d: Dialect) {
         open: false,
         left: 1,
     };
-    open(buf, d, past, 1);
-    put_clear(buf, d, near);
-    write_clear(buf, d, waiting);
+    open(rt, buf, d, past, 1)?;
+    put_clear(rt, buf, d, near)?;
+    write_clear(rt, buf, d, waiting)?;
+    Ok(())
 }
 
-fn not_good(buf: &mut [u8], d: Dialect) {
+fn not_good(rt: &impl Print, buf: &mut [u8], d: Dialect) -> io::Result<()> {
     let mut bad = d;
     bad.length = 9;
     let s = WriterState {
@@ -193,12 +252,13 @@ fn not_good(buf: &mut [u8], d: Dialect) {
         open: true,
         left: 0,
     };
-    close(buf, bad, s);
-    close(buf, d, s);
+    close(rt, buf, bad, s)?;
+    close(rt, buf, d, s)?;
+    Ok(())
 }
 
 // One byte too few, and exactly enough.
-fn exact_room(buf: &mut [u8], d: Dialect) {
+fn exact_room(rt: &impl Print, buf: &mut [u8], d: Dialect) -> io::Result<()> {
     let short = WriterState {
         position: 142,
         start: 0,
@@ -211,11 +271,12 @@ fn exact_room(buf: &mut [u8], d: Dialect) {
         open: false,
         left: 0,
     };
-    write_clear(buf, d, short);
-    write_clear(buf, d, enough);
+    write_clear(rt, buf, d, short)?;
+    write_clear(rt, buf, d, enough)?;
+    Ok(())
 }
 
-fn main() {
+fn main(rt: HostRuntime) -> io::Result<()> {
     let mut buf = [0xEEu8; 176];
     let d = Dialect::TEST;
     let s = WriterState {
@@ -224,16 +285,16 @@ fn main() {
         open: false,
         left: 0,
     };
-    let a = out_of_order(&mut buf, d, s);
-    let b = counts(&mut buf, d, a);
-    let c = inside_a_batch(&mut buf, d, b);
-    let e = keys(&mut buf, d, c);
-    let f = entries(&mut buf, d, e);
-    let g = close_and_one(&mut buf, d, f);
-    let h = to_the_end(&mut buf, d, g);
-    no_more_room(&mut buf, d, h);
-    made_up(&mut buf, d);
-    not_good(&mut buf, d);
-    exact_room(&mut buf, d);
-    print_bytes(&buf);
+    let a = out_of_order(&rt, &mut buf, d, s)?;
+    let b = counts(&rt, &mut buf, d, a)?;
+    let c = inside_a_batch(&rt, &mut buf, d, b)?;
+    let e = keys(&rt, &mut buf, d, c)?;
+    let f = entries(&rt, &mut buf, d, e)?;
+    let g = close_and_one(&rt, &mut buf, d, f)?;
+    let h = to_the_end(&rt, &mut buf, d, g)?;
+    no_more_room(&rt, &mut buf, d, h)?;
+    made_up(&rt, &mut buf, d)?;
+    not_good(&rt, &mut buf, d)?;
+    exact_room(&rt, &mut buf, d)?;
+    print_bytes(&rt, &buf)
 }
