@@ -1,5 +1,7 @@
 // What Rust and C call. include/pierloft.h declares and documents each function. A layer over the calls of the other crates and no more:
 // crate flat turns what cannot cross to C into numbers. Public: the functions pierloft_*.
+#![tactic(auto)]
+
 ghost use Rattle.std.specs.Prelude.{◌≡◌, not};
 ghost use Rattle.dialect.specs.Dialect.{good, code_of, SHIPPED as shippedDialect, TEST as testDialect};
 ghost use Rattle.refusal.specs.Refusal.{when_of};
