@@ -1,8 +1,9 @@
 -- What a state stands for that takes in an input piece by piece, and what comes of it at the input's end and at a refusal.
-use Rattle.std.proofs.Common.{◌≡◌, ℕ, ◌+◌, ◌-◌, ◌≤◌, ◌<◌, refl, sym, ap, ◌∙◌, arith, List, [], ◌∷◌, ◌++◌, length, Option, None, Some, IfSome, length-append, append_assoc, append-nil, le-leb}
+use Rattle.std.proofs.Common.{◌≡◌, ℕ, ◌+◌, ◌-◌, ◌≤◌, ◌<◌, sym, ap, ◌∙◌, arith, List, [], ◌∷◌, ◌++◌, length, Option, None, Some, IfSome, length-append, append-nil, le-leb}
 use Rattle.std.proofs.lemmas.Bool.{lt-leb}
 use Rattle.std.proofs.Math.Decide.{dec_le}
 use Rattle.std.specs.Io.KnownBytes.{Consumes, IsAtEnd}
+use Rattle.std.proofs.KnownBytes.{Consumes-nil, Consumes-trans}
 use Rattle.number.specs.Limit.{limit}
 use Rattle.xxh3.specs.Xxh3.{default_secret}
 use Rattle.xxh3.specs.declared.Hashed.{Hashed}
@@ -22,17 +23,7 @@ pub record StandsFor (before after : Option (List ℕ)) (state : Hasher) : Type 
   pub within : length seen ≤ limit
 
 pub at_start : (before : Option (List ℕ)) (state : Hasher) → state ≡ fresh → StandsFor before before state
-at_start before state e = record { seen = []; consumed = none before; taken = e ∙ sym (absorbs_none default_secret fresh); within = omega arith }
-  where
-    none : (known : Option (List ℕ)) → Consumes known known []
-    none None = tt
-    none (Some xs) = refl
-
-consumes_both : (a b c : Option (List ℕ)) (x y : List ℕ) → Consumes a b x → Consumes b c y → Consumes a c (x ++ y)
-consumes_both None b c x y p q = tt
-consumes_both (Some r) None c x y p q = absurd p
-consumes_both (Some r) (Some s) None x y p q = absurd q
-consumes_both (Some r) (Some s) (Some t) x y p q = p ∙ ap (λ z. x ++ z) q ∙ sym (append_assoc x y t)
+at_start before state e = record { seen = []; consumed = Consumes-nil before; taken = e ∙ sym (absorbs_none default_secret fresh); within = omega arith }
 
 pub total : {before after : Option (List ℕ)} {state : Hasher} → (h : StandsFor before after state) → state.total ≡ length h.seen
 total h = ap (λ (s : Hasher). s.total) h.taken ∙ absorbs_total default_secret fresh h.seen ∙ omega arith
@@ -72,7 +63,7 @@ module _ (before mid after : Option (List ℕ)) (state next : Hasher) (p : List 
       let t : state.total ≡ length h.seen = total h in
       record {
         seen = h.seen ++ p;
-        consumed = consumes_both before mid after h.seen p h.consumed given;
+        consumed = Consumes-trans before mid after h.seen p h.consumed given;
         taken = e ∙ fits state p l ∙ ap (λ (s : Hasher). absorbs default_secret s p) h.taken ∙ sym (absorbs_append default_secret fresh h.seen p);
         within = omega (arith, length-append h.seen p);
       }
