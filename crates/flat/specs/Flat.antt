@@ -1,5 +1,5 @@
 -- The library's values as the numbers that cross to C.
-use Rattle.std.specs.Prelude.{ℕ, ◌-◌, Bool, cond, not, List, eqb, leb}
+use Rattle.std.specs.Prelude.{ℕ, ◌-◌, cond, not, List, eqb, leb}
 use Rattle.dialect.specs.declared.Dialect.{Dialect}
 use Rattle.dialect.specs.declared.ValueType.{ValueType}
 use Rattle.dialect.specs.declared.ValueType.TheVariants.{Value, Tombstone, WeakTombstone, Indirection}

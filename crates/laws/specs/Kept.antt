@@ -16,7 +16,7 @@ use Rattle.entry.specs.Entry.{Put, start, body, end, put, put_all, put_batch, ha
 use Rattle.entry.specs.Sizes.{put_all_snoc, fit_snoc, batch_parts, start_size}
 use Rattle.encode.specs.Laws.{end_length}
 use Rattle.writer.specs.declared.WriterState.{WriterState}
-use Rattle.writer.specs.Writing.{Outcome, settle, wrote, inside, outside, hashed_from, standing}
+use Rattle.writer.specs.Writing.{Outcome, settle, inside, outside, hashed_from, standing}
 use Rattle.writer.specs.Laws.{settle_done, settle_not, hashed_stands}
 use Rattle.laws.specs.Journals.{Closed, journal, journal_snoc, EachFits, each_snoc}
 use Rattle.laws.specs.Runs.{Call, Ledger, ledger_of, Standing, is_wrote, add, file, note, settled}

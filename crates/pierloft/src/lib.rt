@@ -1,7 +1,9 @@
 // What Rust and C call. include/pierloft.h declares and documents each function. A layer over the calls of the other crates and no more:
 // crate flat turns what cannot cross to C into numbers. Public: the functions pierloft_*.
+#![tactic(auto)]
+
 ghost use Rattle.std.specs.Prelude.{◌≡◌, not};
-ghost use Rattle.dialect.specs.Dialect.{good, code_of, SHIPPED as shippedDialect, TEST as testDialect};
+ghost use Rattle.dialect.specs.Dialect.{good, code_of, SHIPPED as shipped_dialect, TEST as test_dialect};
 ghost use Rattle.refusal.specs.Refusal.{when_of};
 ghost use Rattle.entry.specs.Entry.{start, item, clear, body, end};
 ghost use Rattle.entry.specs.Decoded.{decoded};
@@ -37,14 +39,14 @@ pub extern "C" fn pierloft_abi_1() -> u32
 
 #[unsafe(no_mangle)]
 pub extern "C" fn pierloft_shipped() -> Dialect
-    ensures { result ≡ shippedDialect }
+    ensures { result ≡ shipped_dialect }
 {
     Dialect::shipped()
 }
 
 #[unsafe(no_mangle)]
 pub extern "C" fn pierloft_test() -> Dialect
-    ensures { result ≡ testDialect }
+    ensures { result ≡ test_dialect }
 {
     Dialect::test()
 }

@@ -1,5 +1,5 @@
 -- What a call may count on that was not refused. Assumes nothing.
-use Rattle.std.specs.Prelude.{ℕ, zero, suc, ◌≤◌, ◌<◌, ◌≡◌, refl, Bool, true, false, not, ◌||◌, ltb}
+use Rattle.std.specs.Prelude.{ℕ, zero, suc, ◌≤◌, ◌<◌, ◌≡◌, refl, Bool, true, false, not, ◌||◌}
 use Rattle.std.proofs.Common.{sym, true≢false, arith, ltb-false}
 use Rattle.number.specs.Limit.{limit}
 use Rattle.dialect.specs.declared.Dialect.{Dialect}

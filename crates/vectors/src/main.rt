@@ -1,8 +1,10 @@
 // Prints the XXH3-64 of made inputs, a line to each length: the length, the hash in one shot, and the hash streamed in pieces
 // of 1, 21, 64, 256 and 1,000 bytes. The file stdout comes from libxxhash, by tests/vectors.sh.
+#![tactic(auto)]
+
 ghost use Rattle.std.specs.Prelude.{◌<◌, ◌≤◌};
 
-use libc::STDOUT_FILENO;
+use std::io;
 use stream::Hasher;
 use xxh3::Hashed;
 
@@ -17,16 +19,10 @@ fn fill_made(buf: &mut [u8]) {
     }
 }
 
-fn print_answer(answer: Hashed) {
-    io::write_all(STDOUT_FILENO, b" ");
+fn print_answer(rt: &impl Print, answer: Hashed) -> io::Result<()> {
     match answer {
-        Hashed::Sum(sum) => {
-            io::print_hex(STDOUT_FILENO, sum, 16);
-        }
-        Hashed::Refused(number) => {
-            io::write_all(STDOUT_FILENO, b"refused ");
-            io::print_decimal(STDOUT_FILENO, number as u64);
-        }
+        Hashed::Sum(sum) => print!(rt; " {sum:016x}"),
+        Hashed::Refused(number) => print!(rt; " refused {number}"),
     }
 }
 
@@ -52,28 +48,30 @@ fn absorb_in_pieces(s: &[u8], cut: usize) -> Hasher {
     h
 }
 
-fn print_line(s: &[u8]) {
-    io::print_decimal(STDOUT_FILENO, s.len() as u64);
-    print_answer(xxh3::xxh3_64(s));
-    print_answer(stream::finish(absorb_in_pieces(s, 1)));
-    print_answer(stream::finish(absorb_in_pieces(s, 21)));
-    print_answer(stream::finish(absorb_in_pieces(s, 64)));
-    print_answer(stream::finish(absorb_in_pieces(s, 256)));
-    print_answer(stream::finish(absorb_in_pieces(s, 1000)));
-    io::write_all(STDOUT_FILENO, b"\n");
+fn print_line(rt: &impl Print, s: &[u8]) -> io::Result<()> {
+    let n = s.len();
+    print!(rt; "{n}")?;
+    print_answer(rt, xxh3::xxh3_64(s))?;
+    print_answer(rt, stream::finish(absorb_in_pieces(s, 1)))?;
+    print_answer(rt, stream::finish(absorb_in_pieces(s, 21)))?;
+    print_answer(rt, stream::finish(absorb_in_pieces(s, 64)))?;
+    print_answer(rt, stream::finish(absorb_in_pieces(s, 256)))?;
+    print_answer(rt, stream::finish(absorb_in_pieces(s, 1000)))?;
+    println!(rt; "")
 }
 
 // Every length from 0 to 300.
-fn print_short(s: &[u8]) {
+fn print_short(rt: &impl Print, s: &[u8]) -> io::Result<()> {
     let mut n = 0;
     while n <= 300 && n <= s.len() {
-        print_line(&s[0..n]);
+        print_line(rt, &s[0..n])?;
         n += 1;
     }
+    Ok(())
 }
 
 // Lengths on either side of blocks and of what is held back, those of published vectors, and longer ones.
-fn print_long(s: &[u8]) {
+fn print_long(rt: &impl Print, s: &[u8]) -> io::Result<()> {
     let lengths: [usize; 16] = [
         403, 511, 512, 513, 1023, 1024, 1025, 2047, 2048, 2049, 2240, 2367, 4096, 10000, 65535,
         65536,
@@ -82,15 +80,21 @@ fn print_long(s: &[u8]) {
     while i < 16 {
         let n = lengths[i];
         if n <= s.len() {
-            print_line(&s[0..n]);
+            print_line(rt, &s[0..n])?;
         }
         i += 1;
     }
+    Ok(())
 }
 
-fn main() {
-    let mut buf = io::large_buffer();
+fn print_all(rt: &impl Print, s: &[u8]) -> io::Result<()> {
+    print_short(rt, s)?;
+    print_long(rt, s)
+}
+
+fn main(rt: HostRuntime) {
+    let mut buf = [0; 65536];
     fill_made(&mut buf);
-    print_short(&buf);
-    print_long(&buf);
+    // What cannot be written is let go: the lines are compared with libxxhash's.
+    let _ = print_all(&rt, &buf);
 }

@@ -1,13 +1,13 @@
 use Rattle.entry.specs.Entry.{entry, tagged}
 use Rattle.entry.proofs.Laws.{nothing, tag_on, tag_wrong}
 use Rattle.entry.specs.Decoded.{shown}
-use Rattle.plan.specs.Steps.{reads as by-plan, off}
+use Rattle.plan.specs.Steps.{reads as by_plan, off}
 use native.Mathlib.Omega.{arith}
 use Rattle.entry.proofs.entry_at.Goals as goal
 
 pub returns-then-image-at-lt1 : goal.returns-then-image-at-lt1
 unfolding entry
-returns-then-image-at-lt1 c = by-plan shown _ _ _ _ (off (omega arith) (nothing _))
+returns-then-image-at-lt1 c = by_plan shown _ _ _ _ (off (omega arith) (nothing _))
 
 pub returns-in-1 : goal.returns-in-1
 unfolding tagged

@@ -3,7 +3,6 @@ use Rattle.std.proofs.Common.{rules}
 use borrow.Author.Tests.{eq-eqb, ne_eqb}
 use native.Mathlib.Omega.{arith}
 use mathlib.Core.Path.{◌≡◌, refl, sym, ◌∙◌}
-use Prim.Native.Nat.{◌-◌}
 use Rattle.entry.proofs.same_at.Goals as goal
 
 pub loop-i-init : goal.loop-i-init

@@ -3,7 +3,6 @@ use Rattle.listing.proofs.Steps.{taken, over}
 use Rattle.text.specs.Written.{nothing_yet, most, all_put, put_fits, put_still, next_room, next_put}
 use native.Mathlib.Omega.{arith}
 use mathlib.Core.Path.{refl}
-use Prim.Native.Nat.{◌-◌}
 use Rattle.listing.proofs.put_reading.Goals as goal
 
 pub loop-seqno-init : goal.loop-seqno-init

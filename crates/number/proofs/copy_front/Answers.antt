@@ -1,4 +1,4 @@
-use Rattle.std.proofs.Common.{◌-◌, refl, ◌∙◌, arith, length-set, rules}
+use Rattle.std.proofs.Common.{refl, ◌∙◌, arith, length-set, rules}
 use Rattle.number.proofs.Copy.{copy_more, copy_done}
 use Rattle.number.proofs.copy_front.Goals as goal
 

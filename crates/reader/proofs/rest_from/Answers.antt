@@ -33,10 +33,10 @@ loop-left-preserved c =
     let e = shown (run_at (entry a.d) a.image.now l.at) in
     let t : c.turn_at-turn.result ≡ turned a.image.now e = c.turn_at-turn.ensures in
     let s : c.if-stands.stands ≡ (l.stands && stands_of a.image.now e) =
-        elim c.if-stands.branch [
-          then-stands w ↦ rw (w.if-stands.true, w.stands-is, t)
-        | else-stands w ↦ w.stands-is ∙ w.if-stands.false ∙ ap (λ (b : Bool). b && stands_of a.image.now e) (sym w.if-stands.false)
-        ] in
+    elim c.if-stands.branch [
+      | then-stands w ↦ rw (w.if-stands.true, w.stands-is, t)
+      | else-stands w ↦ w.stands-is ∙ w.if-stands.false ∙ ap (λ (b : Bool). b && stands_of a.image.now e) (sym w.if-stands.false)
+    ] in
     rw (s, t) (walk_on _ _ _ _ _ _ l.at l.left l.stands l.invariant o c.loop-left-test.true (sym (ap (λ (x : Turn). x.outcome) t) ∙ c.if-outcome-ne0.false))
 
 pub close_at-requires : goal.close_at-requires

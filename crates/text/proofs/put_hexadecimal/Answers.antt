@@ -7,7 +7,6 @@ use lib.ListN.{length-set}
 use Rattle.std.proofs.Common.{rules}
 use native.Mathlib.Omega.{arith}
 use mathlib.Core.Path.{refl, ap}
-use Prim.Native.Nat.{◌-◌}
 use Rattle.text.proofs.put_hexadecimal.Goals as goal
 
 pub loop-i-init : goal.loop-i-init

@@ -5,7 +5,6 @@ use Rattle.entry.specs.Entry.{end, layout, put}
 use Rattle.dialect.specs.Good.{is_good}
 use Rattle.xxh3.specs.Xxh3.{xxh3_64}
 use Rattle.number.specs.Part.{over, tail_room, tail_put}
-use lib.ListN.{length}
 use native.Mathlib.Omega.{arith}
 use Prim.Native.Nat.{ℕ, ◌+◌}
 use mathlib.Core.List.{[]}

@@ -1,6 +1,5 @@
 use Rattle.writer.specs.Writing.{no_room}
 use borrow.Author.Tests.{eq-eqb, ne_eqb}
-use lib.ListN.{length}
 use lib.Dec.{ltb}
 use native.Mathlib.Omega.{arith}
 use Prim.Native.Nat.{◌+◌, ◌-◌}

@@ -1,0 +1,17 @@
+use mathlib.Core.Path.{sym, ◌∙◌}
+use Rattle.flat.specs.Flat.{typed_count, typed_bytes}
+use Rattle.pierloft.proofs.pierloft_encode_item.Goals as goal
+
+pub returns-then-not-is_type : goal.returns-then-not-is_type
+unfolding typed_count typed_bytes
+returns-then-not-is_type c =
+    let t = sym c.is_type.ensures ∙ c.if-not-is_type.true in
+    (rw (t, c.refused_count.ensures), rw t)
+
+pub returns : goal.returns
+unfolding typed_count typed_bytes
+returns c =
+    let t = sym c.is_type.ensures ∙ c.if-not-is_type.false in
+    let e = c.encode_item.ensures in
+    let k = c.type_of-kind.ensures in
+    (rw (t, c.flat_written.ensures, e.0, k), rw (t, e.1, k))
