@@ -1,4 +1,4 @@
-/* Pierloft: the journal of fjall 3.1.13, uncompressed, proved. The functions of libpierloft.a (`rt staticlib pierloft`).
+/* Pierloft: the journal of fjall 3.1.13, uncompressed, proved. The functions of libpierloft.a (tools/archive builds it).
  *
  * Each function's contract is proved; these declarations are not, and tests/c holds them to the library.
  *

@@ -5,7 +5,7 @@ set -u
 cd "$(dirname "$0")/.." || exit 2
 top=$(pwd -P)
 for name in dump dump_test xxh3sum; do
-    [ -x "target/bin/$name" ] || rt check "$name" >/dev/null || {
+    sh tools/program "$name" >/dev/null 2>&1 || {
         echo "script: $name could not be built"
         exit 1
     }

@@ -97,12 +97,8 @@ while read -r name magic codes; do
     # shellcheck disable=SC2086
     dialect "$name" "$magic" $codes
 done <dialects
-archive=$top/target/staticlib/libpierloft.a
-if [ ! -f "$archive" ] || [ -n "$(find "$top/crates" -name '*.rt' -newer "$archive")" ]; then
-    echo "oracle: building the static library"
-    (cd "$top" && rt staticlib pierloft) >target/staticlib.log 2>&1 || {
-        cat target/staticlib.log
-        exit 1
-    }
-fi
-PIERLOFT_ARCHIVE=$archive cargo build -q --release --offline
+sh "$top/tools/archive" --if-older >target/archive.log 2>&1 || {
+    cat target/archive.log
+    exit 1
+}
+PIERLOFT_ARCHIVE=$top/target/staticlib/libpierloft.a cargo build -q --release --offline
