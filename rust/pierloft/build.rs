@@ -87,7 +87,7 @@ fn build(top: &Path) {
     match run {
         Ok(run) if run.status.success() => {}
         Ok(run) => fail(&format!(
-            "tools/archive failed: it needs rt, the Rattle toolchain, on the PATH, unless PIERLOFT_LIB_DIR is set:\n{}{}",
+            "tools/archive failed (it needs rt, the Rattle toolchain, on the PATH; with PIERLOFT_LIB_DIR set it is not called):\n{}{}",
             String::from_utf8_lossy(&run.stdout),
             String::from_utf8_lossy(&run.stderr)
         )),

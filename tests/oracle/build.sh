@@ -25,6 +25,7 @@ put() {
 # Debian's own packages of the crates that fjall uses, unpacked and not installed.
 crates() {
     [ ! -d target/vendor ] || return 0
+    # shellcheck disable=SC2015
     command -v apt-get >/dev/null && command -v dpkg >/dev/null || lack "no apt-get to get the packages $packages with"
     rm -rf target/debs
     mkdir -p target/debs
