@@ -80,17 +80,19 @@ def shape(code):
 
 
 def functions(source):
-    """The functions of a file as rt fmt lays it out: each one's name, its first and its last line, and the line where its body begins."""
-    found, of, lines = [], '', source.splitlines()
+    """The functions of a file as rt fmt lays it out: each one's name, its first line, which an attribute may be, its last, and the line where its
+    body begins."""
+    found, of, first, lines = [], '', None, source.splitlines()
     for at, line in enumerate(lines, 1):
-        if line and not line.startswith((' ', '}')):
+        if line and not line.startswith((' ', '}', '#')):
             of = IMPL.match(line)[1] + '::' if IMPL.match(line) else ''
         head = FUNCTION.match(line)
         if head:
             indent = head[1] or ''
             last = next((n for n, it in enumerate(lines[at - 1:], at) if it == indent + '}'), at)
             body = next((n for n, it in enumerate(lines[at - 1:last], at) if it.endswith('{') and (it == indent + '{' or n == at)), last)
-            found.append((of + head[2], at, last, body))
+            found.append((of + head[2], first or at, last, body))
+        first = (first or at) if line.lstrip().startswith('#[') else None
     return found
 
 
@@ -230,6 +232,7 @@ impl Reader {
     }
 }
 
+#[unsafe(no_mangle)]
 pub fn f(sum: u64, checksum: u64) -> bool
     ensures { result ≡ true }
 {
@@ -262,7 +265,7 @@ def self_test():
         ('a bad edit', last, ', a <= b', "BAD EDIT: an 'old:' text is in src/lib.rt 0 times, and not once", True),
         ('not tried', last, ', a <= b', None, True),
         ('a fact', last, ', a <= b', fact, False),
-        ('a fact that no proof file answers', last, ', a <= b', note.format(13), False),
+        ('a fact that no proof file answers', last, ', a <= b', note.format(11), False),
         ('a fact in a method', first, ', ended: a <= b', note.format(5), False),
         ('a fact in the proof of a method', first, ', ended: a <= b', fact.replace('/f/', '/Reader/new/'), False),
         ('a contract', 'result ≡ true', 'true', fact, False),
