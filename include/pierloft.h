@@ -1,10 +1,11 @@
-/* Pierloft: the journal of fjall 3.1.13, uncompressed, proved. The functions of libpierloft.a (`rt staticlib pierloft`).
+/* Pierloft: the journal of fjall 3.1.13, uncompressed, proved. The functions of libpierloft.a (tools/archive builds it).
  *
  * Each function's contract is proved; these declarations are not, and tests/c holds them to the library.
  *
  * No function allocates, keeps a pointer, reads a clock or calls the system. There is no shared state: any number of threads may call at
- * once, as long as none writes to what another's call is lent. Calls follow the System V convention of x86-64. Each takes less than 4 KiB of
- * stack, its arguments and its answer included; this is measured (tests/c/stack.c) and not proved.
+ * once, as long as none writes to what another's call is lent. Calls follow the System V convention of x86-64, and the code is for processors
+ * with SSE4.2 (x86-64-v2), which it takes for granted. Each call takes less than 4 KiB of stack, its arguments and its answer included; this is
+ * measured (tests/c/stack.c) and not proved.
  *
  * A pointer comes with its length, stays the caller's, and is not used after the call. It must not be null, unless the length is 0. The
  * pointers to a hash's state and to its parts come without a length and must not be null. Buffers that a call writes to must not overlap

@@ -32,8 +32,7 @@ def structs():
 
 def library():
     archive = os.path.join(TOP, 'target', 'staticlib', 'libpierloft.a')
-    if not os.path.exists(archive):
-        subprocess.run(['rt', 'staticlib', 'pierloft'], cwd=TOP, check=True, stdout=subprocess.DEVNULL)
+    subprocess.run(['sh', os.path.join(TOP, 'tools', 'archive'), '--if-older'], check=True, stdout=subprocess.DEVNULL)
     with tempfile.TemporaryDirectory() as folder:
         shared = os.path.join(folder, 'pierloft.so')
         subprocess.run(['cc', '-shared', '-o', shared, '-Wl,--whole-archive', archive, '-Wl,--no-whole-archive'], check=True)

@@ -1,20 +1,20 @@
 #!/usr/bin/env python3
 """Every must-fail edit must be refused because a fact no longer holds.
 
-    tests/edits.py          judges the logs that `rt ci` or `rt must-fail` left in target/must-fail
+    tests/edits.py LOG      judges what `rt ci` or `rt must-fail` printed, which the file LOG has ('-': standard input)
     tests/edits.py --self   shows that each poor edit below is caught
 
-An edit file holds one or more replacements, tried in one check of the crate. A line `fn: NAME` above a replacement says which function must
-be refused for it: in the log that function has an error of its own, and not only one that it takes over from what it calls. So one check
-serves many replacements, each in another function. Above a replacement with no such line (a definition that laws stand on) the first error
-counts.
+An edit is a wrong program or a wrong definition: pairs of a text and what to put in its place. rt tries each edit by itself and prints a line for
+it, which has the first thing that the prover says against it, and where. That must be said against the very function whose text is replaced; or,
+where the text is a constant's or a definition's, against whatever cites it. Where an edit replaces several, one of them is enough; so such an edit
+counts for no call.
 
 A refusal shows nothing where only the shape of the code changed, so that the proof file no longer fits. Two things are looked at: the
-replacement keeps the shape of the code, token by token, but for operands, literals and operators of one kind; and the log's errors are about
-facts and not about names, fields or missing parts of a proof.
+replacement keeps the shape of the code, token by token, but for operands, literals and operators of one kind; and what the prover says is about
+a fact and not about names, fields or missing parts of a proof.
 
-Every public call that docs/ARCHITECTURE.md lists is named by a replacement, every exported function too, and a crate has two replacements or
-more for each of its public calls.
+Every public call that docs/ARCHITECTURE.md lists has an edit, every exported function too, and a crate has two edits or more for each of its
+public calls.
 """
 import glob
 import os
@@ -24,10 +24,14 @@ import sys
 TOP = os.path.dirname(os.path.dirname(os.path.abspath(__file__)))
 
 # what the prover says where a proof file no longer fits the code, or a name is unknown
-SHAPE = re.compile(r'has no `|not in scope|has no field|no such|takes \d+ argument|is not a record|unexpected|cannot appear|wrong number')
-# what a declaration takes over from one that it cites
-TAKEN_OVER = re.compile(r'was not admitted .*so this cannot be checked')
-ERROR = re.compile(r'^(\S+?):\d+:\d+: error: (.*)$')
+SHAPE = re.compile(r'has no `|not in scope|has no field|no such|takes \d+ argument|is not a record|unexpected|cannot appear|wrong number'
+                   r'|was not admitted')
+# what rt says of an edit, and where the prover says the first thing against it
+LINE = re.compile(r'^rt: must-fail (\w+)/(\S+)\.edit: (.*)$')
+REFUSED = 'refused, as it must be'
+PLACE = re.compile(r'^(?:note: )?(?:\./)?(\S+?):(\d+):\d+: (.*)$')
+FUNCTION = re.compile(r'^(    )?(?:pub(?:\(\w+\))? )?(?:const )?(?:extern "C" )?fn (\w+)')
+IMPL = re.compile(r'^impl(?:<.*?>)? (?:.* for )?(\w+)')
 
 KEYWORDS = {'if', 'else', 'let', 'mut', 'return', 'while', 'loop', 'match', 'as', 'pub', 'const', 'fn'}
 KINDS = {op: kind for kind, ops in {'comparison': '== != < <= > >=', 'arithmetic': '+ - * / % << >> & | ^', 'logic': '&& ||'}.items()
@@ -35,29 +39,25 @@ KINDS = {op: kind for kind, ops in {'comparison': '== != < <= > >=', 'arithmetic
 TOKEN = re.compile(r'''b?"[^"]*"|0x[0-9a-fA-F_]+|\d[\d_]*|[A-Za-z_]\w*(?:(?:\.|::)(?!len\(\))\w+)*(?:\.len\(\))?|==|!=|<=|>=|<<|>>|&&|\|\||=>|->|\.\.|\S''')
 
 
-class Replacement:
-    def __init__(self, file, fn, old, new):
-        self.file, self.fn, self.old, self.new = file, fn, old, new
+class Pair:
+    """A text of a file that an edit replaces, and what by."""
+
+    def __init__(self, file, old, new):
+        self.file, self.old, self.new = file, old, new
 
 
-def parsed(path):
-    """The replacements of an edit file; a `fn:` line holds up to the next one or the next comment."""
-    file = fn = old = None
-    found = []
-    with open(path, encoding='utf-8') as lines:
-        for line in lines.read().splitlines():
-            word, _, rest = line.partition(' ')
-            if word == 'file:':
-                file = rest
-            elif word == 'fn:':
-                fn = rest
-            elif word == 'old:':
-                old = rest
-            elif word == 'new:':
-                found.append(Replacement(file, fn, old, rest))
-            elif line.startswith('#'):
-                fn = None
-    return found
+def parsed(text):
+    """The pairs of an edit file."""
+    file, old, pairs = '', '', []
+    for line in text.splitlines():
+        word, _, rest = line.partition(' ')
+        if word == 'file:':
+            file = rest
+        elif word == 'old:':
+            old = rest
+        elif word == 'new:':
+            pairs.append(Pair(file, old, rest))
+    return pairs
 
 
 def shape(code):
@@ -79,67 +79,82 @@ def shape(code):
     return out
 
 
-def in_clause(source, old):
-    """Whether a text stands in a contract, which has no shape to keep."""
-    line = next((line for line in source.splitlines() if old in line), '')
-    return line.strip().startswith(('ensures', 'requires', '×'))
+def functions(source):
+    """The functions of a file as rt fmt lays it out: each one's name, its first line, which an attribute may be, its last, and the line where its
+    body begins."""
+    found, of, first, lines = [], '', None, source.splitlines()
+    for at, line in enumerate(lines, 1):
+        if line and not line.startswith((' ', '}', '#')):
+            of = IMPL.match(line)[1] + '::' if IMPL.match(line) else ''
+        head = FUNCTION.match(line)
+        if head:
+            indent = head[1] or ''
+            last = next((n for n, it in enumerate(lines[at - 1:], at) if it == indent + '}'), at)
+            body = next((n for n, it in enumerate(lines[at - 1:last], at) if it.endswith('{') and (it == indent + '{' or n == at)), last)
+            found.append((of + head[2], first or at, last, body))
+        first = (first or at) if line.lstrip().startswith('#[') else None
+    return found
 
 
-def proof_of(fn):
-    return 'proofs/' + fn.replace('::', '/') + '/Proof.antt'
+def function_at(source, line):
+    """The function that a line stands in, None where it is in none, and whether it stands in the contract."""
+    return next(((name, line < body) for name, first, last, body in functions(source) if first <= line <= last), (None, False))
 
 
-def own_errors(log, fn, where):
-    """What the log says against a function itself, or None where the prover's own search gave up on it."""
-    if re.search(r'^fn \w+::' + re.escape(fn) + r': no proof: .*`search` does not close', log, re.M):
-        return None
-    proof = os.path.join(where, proof_of(fn))
-    spec = '`' + fn.split('::')[-1].replace('_', '-') + '-spec`'
-    errors = [m.group(2) for m in map(ERROR.match, log.splitlines()) if m and m.group(1).endswith(proof)]
-    return [(text, text.startswith(spec)) for text in errors if not TAKEN_OVER.search(text)]
+def place_of(pair, sources):
+    """The function that a pair changes, None where it changes a constant or a definition; and whether it changes code, which has a shape to keep."""
+    if not pair.file.startswith('src/'):
+        return None, False
+    source = sources(pair.file)
+    line = next((n for n, line in enumerate(source.splitlines(), 1) if pair.old in line), 0)
+    name, in_contract = function_at(source, line)
+    return name, not in_contract
 
 
-def against_function(log, fn, where):
-    errors = own_errors(log, fn, where)
-    if errors is None:
-        return None
-    if not errors:
-        return f'{fn} is not refused for itself'
-    for text, at_the_end in errors:
-        if SHAPE.search(text) or at_the_end:
-            return f'{fn} is refused for its shape: {text[:160]}'
+def changed(pairs, sources):
+    """The functions that an edit changes; nothing where it changes a constant or a definition too, so that any function may be refused."""
+    names = [place_of(pair, sources)[0] for pair in pairs]
+    return set() if None in names else set(names)
+
+
+def refused(said, sources):
+    """What the prover speaks against first, a function or else a file, and what it says."""
+    place = PLACE.match((said or '')[len(REFUSED):].lstrip(': '))
+    if not place:
+        return None, ''
+    path, line, text = place.groups()
+    parts = path.split('/')
+    if parts[0] == 'proofs' and len(parts) > 2:
+        return '::'.join(it for it in parts[1:-1] if not it.startswith('+')), text
+    return parts[0] == 'src' and function_at(sources(path), int(line))[0] or path, text
+
+
+def against_line(said, pairs, sources):
+    """What is poor about a refusal."""
+    if said is None:
+        return 'it was not tried'
+    if not said.startswith(REFUSED):
+        return said[:160]
+    if said.startswith(REFUSED + ' (only '):
+        return 'it is refused, but ' + said[len(REFUSED) + 2:160]
+    at, text = refused(said, sources)
+    if not at:
+        return 'no fact is named: ' + said[:160]
+    if SHAPE.search(text):
+        return 'it is refused for its shape: ' + text[:160]
+    names = changed(pairs, sources)
+    if names and at not in names:
+        return f'{at} is refused, and not {" or ".join(sorted(names))}'
     return None
 
 
-def against_definitions(log):
-    """A definition that is no longer one makes every function that cites it fail, whatever it does."""
-    errors = [m.group(2) for m in map(ERROR.match, log.splitlines()) if m and '/specs/' in m.group(1)]
-    return next((f'a definition is no longer one: {text[:160]}' for text in errors if SHAPE.search(text)), None)
-
-
-def against_log(log):
-    errors = [m.group(2) for m in map(ERROR.match, log.splitlines()) if m]
-    if not errors and 'it is not proved that' not in log:
-        return 'no error in its log'
-    if errors and SHAPE.search(errors[0]):
-        return f'refused for its shape: {errors[0][:160]}'
-    return None
-
-
-def complaints(crate, label, replacements, source, log):
-    """Why an edit shows nothing: empty where it is good."""
-    if not replacements:
+def complaints(pairs, sources, said):
+    """Why an edit shows nothing: empty where it is good. sources gives a file of the crate by its path."""
+    if not pairs:
         return ['it replaces nothing']
-    found = []
-    for r in replacements:
-        if r.file.startswith('src/') and not in_clause(source, r.old) and shape(r.old) != shape(r.new):
-            found.append(f'the shape of the code changes: {r.old!r} to {r.new!r}')
-    for fn in dict.fromkeys(r.fn for r in replacements if r.fn):
-        found.append(against_function(log, fn, os.path.join(crate, label)))
-    found.append(against_definitions(log))
-    if not all(r.fn for r in replacements):
-        found.append(against_log(log))
-    return [why for why in found if why]
+    found = [f'the shape of the code changes: {it.old!r} to {it.new!r}' for it in pairs
+             if place_of(it, sources)[1] and shape(it.old) != shape(it.new)]
+    return [why for why in found + [against_line(said, pairs, sources)] if why]
 
 
 def public_calls(page):
@@ -151,69 +166,120 @@ def public_calls(page):
 
 
 def unheld(edits):
-    """What no edit speaks of: edits is a crate's replacements, by crate."""
+    """What no edit is for. edits: by crate, the function that each edit is for."""
     calls = public_calls(text_of(os.path.join(TOP, 'docs/ARCHITECTURE.md')))
     if not calls:
         yield 'docs/ARCHITECTURE.md: no table of public calls was found'
     calls['pierloft'] = re.findall(r'^pub extern "C" fn (\w+)', text_of(os.path.join(TOP, 'crates/pierloft/src/lib.rt')), re.M)
     for crate, names in calls.items():
-        here = edits.get(crate, [])
-        told = [(r.fn or '').split('::')[-1] for r in here]
+        here = [name for name in edits.get(crate, []) if name is not None]
+        told = {name.split('::')[-1] for name in here}
         for name in names:
             if name.split('::')[-1] not in told:
-                yield f'{crate}: no edit is refused at {name}'
+                yield f'{crate}: no edit is for {name}'
         if crate != 'pierloft' and len(here) < 2 * len(names):
-            yield f'{crate}: {len(here)} replacements for {len(names)} public calls'
+            yield f'{crate}: {len(here)} edits for {len(names)} public calls'
 
 
 def text_of(path):
     try:
-        with open(path, encoding='utf-8') as f:
+        with sys.stdin if path == '-' else open(path, encoding='utf-8') as f:
             return f.read()
     except OSError:
         return ''
 
 
-def judge():
-    checks = seen = poor = 0
+def is_for(pairs, sources, said):
+    """The function that an edit is for: the one that it changes, or the one that is refused where it changes a constant. None for an edit of
+    several places at once, which shows something of one of them alone."""
+    places = {place_of(pair, sources)[0] or (pair.file, pair.old) for pair in pairs}
+    if len(places) != 1:
+        return None
+    place = places.pop()
+    if isinstance(place, str):
+        return place
+    return refused(said, sources)[0] if place[0].startswith('src/') else ''
+
+
+def judge(log):
+    said = {(it[1], it[2]): it[3] for it in map(LINE.match, text_of(log).splitlines()) if it}
+    seen = poor = 0
     edits = {}
     for path in sorted(glob.glob(os.path.join(TOP, 'crates/*/must-fail/*.edit'))):
         crate, label = path.split(os.sep)[-3], os.path.basename(path)[:-len('.edit')]
-        replacements = parsed(path)
-        checks, seen = checks + 1, seen + len(replacements)
-        edits.setdefault(crate, []).extend(replacements)
-        source = text_of(os.path.join(TOP, 'crates', crate, 'src/lib.rt'))
-        log = text_of(os.path.join(TOP, 'target/must-fail', crate, label, '.log'))
-        for why in complaints(crate, label, replacements, source, log):
+        pairs, line = parsed(text_of(path)), said.get((crate, label))
+
+        def sources(file, crate=crate):
+            return text_of(os.path.join(TOP, 'crates', crate, file))
+
+        edits.setdefault(crate, []).append(is_for(pairs, sources, line))
+        seen += 1
+        for why in complaints(pairs, sources, line):
             poor += 1
             print(f'{crate}/{label}: {why}')
     lacking = list(unheld(edits))
-    print('\n'.join(lacking + [f'{seen} replacements in {checks} edits, {poor} refused for a poor reason or not at all']))
-    return 1 if poor or lacking or not checks else 0
+    print('\n'.join(lacking + [f'{seen} edits, {poor} complaints']))
+    return 1 if poor or lacking or not seen else 0
+
+
+SOURCE = '''const LIMIT: u64 = 9;
+
+impl Reader {
+    pub fn new(n: usize) -> Reader
+        ensures { result ≡ made n }
+    {
+        Reader { at: n, ended: a < b }
+    }
+}
+
+#[unsafe(no_mangle)]
+pub fn f(sum: u64, checksum: u64) -> bool
+    ensures { result ≡ true }
+{
+    if ended {
+        g(Dialect::shipped(), sum == checksum, a < b)
+    }
+}
+'''
 
 
 def self_test():
-    """Poor edits, each with the log that the prover gives it or could give it: every one must be caught. And a good one must not be."""
-    where = 'x/must-fail/c/l/proofs/f/Proof.antt:1:1: error: '
-    fact = where + '`returns`: `omega`: the goal does not follow from what it read.\n'
+    """Poor edits, each with what rt says of it or could say: every one must be caught. And a good one must not be."""
+    fact = REFUSED + ': ./proofs/f/Answers.antt:8:13: error: `returns`: `omega`: the goal does not follow from what it read.'
+    note = REFUSED + ': note: src/lib.rt:{}:1: it is not proved that what the function ensures holds when it returns (`returns`)'
+    last, first = ', a < b', ', ended: a < b'
+    several = [Pair('src/lib.rt', ', ended: a < b', ', ended: a <= b'), Pair('src/lib.rt', ', a < b', ', a <= b')]
     cases = [
-        ('a further test', 'sum == checksum {', 'sum == checksum || 13 < body {', fact, True),
+        ('a further test', 'sum == checksum', 'sum == checksum || 13 < body', fact, True),
         ('a test turned', 'if ended {', 'if !ended {', fact, True),
         ('another callee', 'Dialect::shipped()', 'Dialect::test()', fact, True),
-        ('a field that is not there', 'a < b', 'a <= b', where + '`returns`: record `c` has no field `h`\n', True),
-        ('a part that the proof lacks', 'a < b', 'a <= b', where + "module `tie` has no `Need-f` that can be named\n", True),
-        ('a proof that no longer fits at its end', 'a < b', 'a <= b', fact + where + '`f-spec`: the two types first differ\n', True),
-        ('refused for what it calls', 'a < b', 'a <= b', where + '`f-spec`: `g` was not admitted (..), so this cannot be checked\n', True),
-        ('a definition with an unknown name', 'a < b', 'a <= b', 'x/must-fail/c/l/specs/S.antt:1:1: error: `s`: `t` is not in scope\n' + fact, True),
-        ('not refused', 'a < b', 'a <= b', '', True),
-        ('a fact', 'a < b', 'a <= b', fact, False),
-        ('a fact that the search lacks', 'S { a, b: 0 }', 'S { a: 0, b: 0 }', 'fn c::f: no proof: expected `f-spec`; `search` does not close `returns`\n', False),
+        ('a field that is not there', last, ', a <= b', fact.replace('`omega`: the goal', 'record `c` has no field `h`'), True),
+        ('a part that the proof lacks', last, ', a <= b', fact.replace('`omega`: the goal', "module `goal` has no `returns` that can be named"), True),
+        ('a proof file that names what is gone', last, ', a <= b', REFUSED + ' (only because a proof file names what the edit took away): ..', True),
+        ('a limit of the prover', last, ', a <= b', REFUSED + ' (only by a limit of the prover, which gave no verdict): ..', True),
+        ('another function is refused', last, ', a <= b', fact.replace('/f/', '/h/'), True),
+        ('another function is refused, in the source', last, ', a <= b', note.format(6), True),
+        ('refused for what it calls', last, ', a <= b', fact.replace('`omega`', '`g` was not admitted (..), so this cannot be checked'), True),
+        ('no fact', last, ', a <= b', REFUSED, True),
+        ('not refused', last, ', a <= b', 'NOT REFUSED: the crate is still proved with this edit', True),
+        ('a bad edit', last, ', a <= b', "BAD EDIT: an 'old:' text is in src/lib.rt 0 times, and not once", True),
+        ('not tried', last, ', a <= b', None, True),
+        ('a fact', last, ', a <= b', fact, False),
+        ('a fact that no proof file answers', last, ', a <= b', note.format(11), False),
+        ('a fact in a method', first, ', ended: a <= b', note.format(5), False),
+        ('a fact in the proof of a method', first, ', ended: a <= b', fact.replace('/f/', '/Reader/new/'), False),
+        ('a contract', 'result ≡ true', 'true', fact, False),
+        ('a constant', 'u64 = 9', 'u64 = 8', fact.replace('/f/', '/h/'), False),
     ]
-    wrong = [name for name, old, new, log, caught in cases
-             if bool(complaints('c', 'l', [Replacement('src/lib.rt', 'f', old, new)], old, log)) != caught]
+    cases = [(name, [Pair('src/lib.rt', old, new)], said, caught) for name, old, new, said, caught in cases]
+    cases += [('nothing', [], fact, True), ('two functions, and a third is refused', several, fact.replace('/f/', '/h/'), True),
+              ('two functions, and one is refused', several, fact, False)]
+    wrong = [name for name, pairs, said, caught in cases if bool(complaints(pairs, lambda file: SOURCE, said)) != caught]
     print(f'edits --self: {len(cases)} edits, ' + (f'judged wrongly: {wrong}' if wrong else 'each judged as it should be'))
     return 1 if wrong else 0
 
 
 if __name__ == '__main__':
-    sys.exit(self_test() if '--self' in sys.argv[1:] else judge())
+    if len(sys.argv) != 2:
+        sys.exit('usage: tests/edits.py LOG | --self')
+    sys.exit(self_test() if sys.argv[1] == '--self' else judge(sys.argv[1]))

@@ -35,7 +35,7 @@ command -v cc >/dev/null || {
     echo 'readme: the C program was not tried: no C compiler'
     exit 77
 }
-[ -f target/staticlib/libpierloft.a ] || rt staticlib pierloft >/dev/null || exit 1
+sh tools/archive --if-older >/dev/null || exit 1
 compile='cc -Iinclude samples/batches.c target/staticlib/libpierloft.a -o target/batches'
 grep -qxF "    \$ $compile" README.md || {
     echo "readme: it does not say '$compile'"

@@ -1,11 +1,11 @@
 #!/bin/sh
 # The script pierloft, called in every way that its help names: what it prints, on which stream, and its exit status.
-# shellcheck disable=SC2015,SC2059,SC2086
+# shellcheck disable=SC2015,SC2016,SC2059,SC2086
 set -u
 cd "$(dirname "$0")/.." || exit 2
 top=$(pwd -P)
 for name in dump dump_test xxh3sum; do
-    [ -x "target/bin/$name" ] || rt check "$name" >/dev/null || {
+    sh tools/program "$name" >/dev/null 2>&1 || {
         echo "script: $name could not be built"
         exit 1
     }

@@ -6,7 +6,7 @@ cd "$(dirname "$0")/.." || exit 2
 . tests/package.sh
 have xxhash xxhsum --version
 ours=$(pwd -P)/target/bin/xxh3sum
-[ -x "$ours" ] || rt check xxh3sum >/dev/null || exit 1
+sh tools/program xxh3sum >/dev/null || exit 1
 dir=$(mktemp -d) || exit 2
 trap 'rm -rf "$dir"' EXIT
 # files of zeros without a block: where files are in memory, if there is such a place, they are read fast

@@ -1,5 +1,5 @@
 //! Links the static library of the proved crates, libpierloft.a: from the folder that PIERLOFT_LIB_DIR names, or from target/staticlib of
-//! the repository that this crate stands in. There it is built by `rt staticlib pierloft` where it is missing or older than its source.
+//! the repository that this crate stands in. There tools/archive builds it where it is missing or older than its source.
 use std::path::{Path, PathBuf};
 use std::process::Command;
 use std::time::SystemTime;
@@ -63,27 +63,43 @@ fn built() -> PathBuf {
         fail("this crate stands outside its repository: set PIERLOFT_LIB_DIR to the folder that holds libpierloft.a");
     };
     let folder = top.join("target/staticlib");
-    println!("cargo:rerun-if-changed={}", top.join("crates").display());
+    let sources = sources(&top.join("crates"));
+    println!(
+        "cargo:rerun-if-changed={}",
+        top.join("crates.txt").display()
+    );
+    for source in &sources {
+        println!("cargo:rerun-if-changed={}", source.display());
+    }
     let made = changed(&folder.join(ARCHIVE));
-    if made.is_none() || newest(&top.join("crates")) > made {
-        println!("cargo:warning=building {ARCHIVE} by `rt staticlib pierloft`: what is not proved yet is proved first, which can take minutes");
-        let run = Command::new("rt")
-            .args(["staticlib", "pierloft"])
-            .current_dir(top)
-            .output();
-        match run {
-            Ok(run) if run.status.success() => {}
-            Ok(run) => fail(&format!(
-                "`rt staticlib pierloft` failed:\n{}{}",
-                String::from_utf8_lossy(&run.stdout),
-                String::from_utf8_lossy(&run.stderr)
-            )),
-            Err(e) => fail(&format!(
-                "rt, the Rattle toolchain, could not be run ({e}): put it on the PATH, or set PIERLOFT_LIB_DIR"
-            )),
-        }
+    if made.is_none() || sources.iter().filter_map(|source| newest(source)).max() > made {
+        build(top);
     }
     folder
+}
+
+fn build(top: &Path) {
+    println!("cargo:warning=building {ARCHIVE} by tools/archive: what is not proved yet is proved first, which can take minutes");
+    let run = Command::new("sh")
+        .arg("tools/archive")
+        .current_dir(top)
+        .output();
+    match run {
+        Ok(run) if run.status.success() => {}
+        Ok(run) => fail(&format!(
+            "tools/archive failed (it needs rt, the Rattle toolchain, on the PATH; with PIERLOFT_LIB_DIR set it is not called):\n{}{}",
+            String::from_utf8_lossy(&run.stdout),
+            String::from_utf8_lossy(&run.stderr)
+        )),
+        Err(e) => fail(&format!("sh could not be run ({e})")),
+    }
+}
+
+/// Each crate's own source. Beside it lies the crate's out/, which is large and holds copies.
+fn sources(crates: &Path) -> Vec<PathBuf> {
+    let entries = std::fs::read_dir(crates).into_iter().flatten().flatten();
+    let folders = entries.map(|entry| entry.path().join("src"));
+    folders.filter(|folder| folder.is_dir()).collect()
 }
 
 fn changed(file: &Path) -> Option<SystemTime> {

@@ -13,13 +13,10 @@ command -v cc >/dev/null || {
 have binutils objcopy --version
 archive=target/staticlib/libpierloft.a out=target/c
 mkdir -p "$out"
-if [ ! -f "$archive" ] || [ -n "$(find crates -name '*.rt' -newer "$archive")" ]; then
-    echo 'c: building the static library'
-    rt staticlib pierloft >"$out/staticlib.log" 2>&1 || {
-        cat "$out/staticlib.log"
-        exit 1
-    }
-fi
+sh tools/archive --if-older >"$out/archive.log" 2>&1 || {
+    cat "$out/archive.log"
+    exit 1
+}
 (cd crates && awk -f ../tests/c/layout.awk dialect/src/lib.rt stream/src/lib.rt flat/src/lib.rt pierloft/src/lib.rt) >"$out/layout.h"
 sed -n '/enum.*{/,/}/p' include/pierloft.h | grep -o 'PIERLOFT_[A-Z0-9_]*' | sed 's/.*/NAME(&)/' >"$out/names.h"
 # each number has one layout: where a struct or a call has changed the number rises, and the sum is set; where a call was added, the sum alone

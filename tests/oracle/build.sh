@@ -25,6 +25,7 @@ put() {
 # Debian's own packages of the crates that fjall uses, unpacked and not installed.
 crates() {
     [ ! -d target/vendor ] || return 0
+    # shellcheck disable=SC2015
     command -v apt-get >/dev/null && command -v dpkg >/dev/null || lack "no apt-get to get the packages $packages with"
     rm -rf target/debs
     mkdir -p target/debs
@@ -97,12 +98,8 @@ while read -r name magic codes; do
     # shellcheck disable=SC2086
     dialect "$name" "$magic" $codes
 done <dialects
-archive=$top/target/staticlib/libpierloft.a
-if [ ! -f "$archive" ] || [ -n "$(find "$top/crates" -name '*.rt' -newer "$archive")" ]; then
-    echo "oracle: building the static library"
-    (cd "$top" && rt staticlib pierloft) >target/staticlib.log 2>&1 || {
-        cat target/staticlib.log
-        exit 1
-    }
-fi
-PIERLOFT_ARCHIVE=$archive cargo build -q --release --offline
+sh "$top/tools/archive" --if-older >target/archive.log 2>&1 || {
+    cat target/archive.log
+    exit 1
+}
+PIERLOFT_ARCHIVE=$top/target/staticlib/libpierloft.a cargo build -q --release --offline

@@ -40,8 +40,8 @@
 //!
 //! # Linking
 //!
-//! The build script links `libpierloft.a`, which is for x86-64 and the System V calling convention, from the folder that `PIERLOFT_LIB_DIR`
-//! names, or from the repository's target/staticlib, where it is built by `rt staticlib pierloft` if it is missing. A relative
+//! The build script links `libpierloft.a`, which is for x86-64 with SSE4.2 (x86-64-v2) and the System V calling convention, from the folder
+//! that `PIERLOFT_LIB_DIR` names, or from the repository's target/staticlib, where tools/archive builds it if it is missing. A relative
 //! `PIERLOFT_LIB_DIR` counts from the workspace, the folder with Cargo.lock; but where the build's output does not lie in it, as with
 //! `CARGO_TARGET_DIR`, that is not known here, and it counts from this crate: give a full path then. An archive whose structs have another
 //! layout does not link.

@@ -17,34 +17,34 @@ FUZZER=$(clang -print-file-name=libclang_rt.fuzzer-x86_64.a)
 [ -f "$FUZZER" ] || lack 'no fuzzer library (Debian: libclang-rt-14-dev)'
 export FUZZER
 
-# a kit like the machine's, but for its clang
-kit=$(cd "$(dirname "$(rt doc)")/.." && pwd -P)
-own=on/$(uname -m)
-shadow=$here/target/fuzzed/kit
-rm -rf target/fuzzed
-mkdir -p "$shadow/$own/toolchain/bin"
-for f in "$kit"/*; do [ "$(basename "$f")" = on ] || ln -s "$f" "$shadow/"; done
-for f in "$kit/$own"/*; do [ "$(basename "$f")" = toolchain ] || ln -s "$f" "$shadow/$own/"; done
-ln -s "$kit/$own/toolchain/lib" "$shadow/$own/toolchain/lib"
-for f in ld.lld llvm-ar; do ln -s "$kit/$own/toolchain/bin/$f" "$shadow/$own/toolchain/bin/$f"; done
-cat >"$shadow/$own/toolchain/bin/clang" <<EOF
-#!/bin/sh
-exec "$kit/$own/toolchain/bin/clang" "\$@" -fsanitize-coverage=inline-8bit-counters,pc-table,trace-cmp
-EOF
-chmod +x "$shadow/$own/toolchain/bin/clang"
-
-# a copy of the crates, so that target/staticlib keeps the plain archive
-mkdir target/fuzzed/repository
-cp -r "$top/crates" "$top/crates.txt" target/fuzzed/repository/
-mkdir target/fuzzed/repository/target
-for f in "$top"/target/*; do
-    case $(basename "$f") in bin | staticlib | must-fail) ;; *) cp -r "$f" target/fuzzed/repository/target/ ;; esac
+# A kit like the machine's, but for its clang, and a copy of the crates, so that target/staticlib keeps the plain archive. Both lie outside this
+# repository, where `rt ci` refuses links and a second crates.txt. rt works with the kit that its own file lies in.
+kit=$(dirname "$(rt doc)")
+room=$(mktemp -d)
+trap 'rm -rf "$room"' EXIT
+mkdir -p "$room/kit/bin" "$room/kit/toolchain/bin" "$room/repository" target/fuzzed
+for f in "$kit"/*; do
+    case $(basename "$f") in bin | toolchain) ;; *) ln -s "$f" "$room/kit/" ;; esac
 done
-(cd target/fuzzed/repository && RATTLE_HOME=$shadow rt staticlib pierloft) >target/fuzzed/log 2>&1 || {
+ln -s "$kit"/bin/rattle* "$room/kit/bin/"
+cp "$kit"/bin/rt* "$room/kit/bin/"
+ln -s "$kit/toolchain/lib" "$room/kit/toolchain/lib"
+ln -s "$kit"/toolchain/bin/* "$room/kit/toolchain/bin/"
+rm "$room/kit/toolchain/bin/clang"
+cat >"$room/kit/toolchain/bin/clang" <<EOF
+#!/bin/sh
+exec "$kit/toolchain/bin/clang" "\$@" -fsanitize-coverage=inline-8bit-counters,pc-table,trace-cmp
+EOF
+chmod +x "$room/kit/toolchain/bin/clang"
+
+# what rt kept comes along, so that little is proved once more
+cp -r "$top/crates" "$top/crates.txt" "$room/repository/"
+(cd "$room/repository/crates/pierloft" && "$room/kit/bin/rt" lib) >target/fuzzed/log 2>&1 || {
     cat target/fuzzed/log
     exit 1
 }
-PIERLOFT_ARCHIVE=$here/target/fuzzed/repository/target/staticlib/libpierloft.a
+cp "$room/repository/crates/pierloft/out/libpierloft.a" target/fuzzed/
+PIERLOFT_ARCHIVE=$here/target/fuzzed/libpierloft.a
 nm "$PIERLOFT_ARCHIVE" 2>/dev/null | grep -q __sanitizer_cov || lack 'the archive counts no branches'
 export PIERLOFT_ARCHIVE
 RUSTFLAGS='-Cpasses=sancov-module -Cllvm-args=-sanitizer-coverage-level=3 -Cllvm-args=-sanitizer-coverage-inline-8bit-counters -Cllvm-args=-sanitizer-coverage-pc-table -Cllvm-args=-sanitizer-coverage-trace-compares -Ccodegen-units=1' \
