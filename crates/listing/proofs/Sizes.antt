@@ -9,7 +9,8 @@ use lib.ListN.{length, length-append}
 use lib.Dec.{eqb}
 use Rattle.xxh3.specs.Xxh3.{default_secret, hash}
 use Rattle.plan.specs.Plan.{Plan, ok, later, run, run_at, Takes}
-use Rattle.plan.specs.Reading.{clean, broken, read, Parsed, none, ends, more, parsed, read_nil, read_stop, read_next}
+use Rattle.plan.specs.Reading.{clean, broken, read, Parsed, none, ends, more, read_nil, read_stop, read_next}
+use Rattle.plan.proofs.Reading.{parsed}
 use Rattle.plan.specs.Place.{at_run}
 use Rattle.dialect.specs.declared.Dialect.{Dialect}
 use Rattle.entry.specs.Entry.{Put, item, clear, body, Stop, entry}

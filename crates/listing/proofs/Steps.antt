@@ -12,7 +12,8 @@ use Rattle.number.specs.Limit.{limit}
 use Rattle.xxh3.specs.Xxh3.{default_secret, hash}
 use Rattle.plan.specs.Plan.{Plan, Res, ok, stop, run_at}
 use Rattle.plan.specs.Reading.{read}
-use Rattle.plan.specs.Place.{at_end, turn_batch, turn_stop, further}
+use Rattle.plan.specs.Place.{at_end}
+use Rattle.plan.proofs.Place.{turn_batch, turn_stop, further}
 use Rattle.plan.specs.Ends.{within}
 use Rattle.dialect.specs.declared.Dialect.{Dialect}
 use Rattle.dialect.specs.Dialect.{good}

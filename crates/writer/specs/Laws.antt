@@ -152,10 +152,6 @@ pub settle_not : (n : ℕ) (xs : List ℕ) (s : WriterState) (o : Outcome) → (
 unfolding settle
 settle_not n xs s o h = rw (ne_eqb n 0 h)
 
--- a refused call: n is the refusal's definition, r what the code found, a what it answered
-pub refused_leaves : (n r : ℕ) (xs : List ℕ) (s : WriterState) (o : Outcome) (a : Reply) → a ≡ refused_reply s r → r ≡ n → (r ≡ 0 → ⊥) → (a ≡ (settle n xs s o).reply) × (xs ≡ (settle n xs s o).bytes)
-refused_leaves n r xs s o a p e h = rw (settle_not n xs s o (λ q. h (e ∙ q))) (p ∙ ap (refused_reply s) e, refl)
-
 -- a call that wrote nothing, and calls that wrote w and left zs: a batch is open behind them, or none
 pub idle_leaves : (n r : ℕ) (xs : List ℕ) (s : WriterState) (o : Outcome) (a : Reply) → r ≡ n → r ≡ 0 → a ≡ o.reply → xs ≡ o.bytes → (a ≡ (settle n xs s o).reply) × (xs ≡ (settle n xs s o).bytes)
 idle_leaves n r xs s o a e z p q = rw (settle_done n xs s o (sym e ∙ z)) (p, q)

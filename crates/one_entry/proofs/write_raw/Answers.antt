@@ -1,4 +1,5 @@
-use Rattle.writer.specs.Laws.{write_zero, refused_leaves, outside_leaves}
+use Rattle.writer.specs.Laws.{write_zero, outside_leaves}
+use Rattle.writer.proofs.Leaves.{refused_leaves}
 use Rattle.writer.specs.Writing.{write_refusal, write_call}
 use Rattle.encode.specs.Encoding.{key_too_long}
 use Rattle.entry.specs.Sizes.{item_size, one_size}

@@ -1,4 +1,5 @@
-use Rattle.writer.specs.Laws.{close_zero, refused_leaves, outside_leaves}
+use Rattle.writer.specs.Laws.{close_zero, outside_leaves}
+use Rattle.writer.proofs.Leaves.{refused_leaves}
 use Rattle.writer.specs.Writing.{close_call, standing}
 use Rattle.encode.specs.Laws.{end_length}
 use Rattle.entry.specs.Entry.{end, layout, put}

@@ -1,4 +1,5 @@
-use Rattle.writer.specs.Laws.{open_zero, refused_leaves, idle_leaves, inside_leaves}
+use Rattle.writer.specs.Laws.{open_zero, idle_leaves, inside_leaves}
+use Rattle.writer.proofs.Leaves.{refused_leaves}
 use Rattle.writer.specs.Writing.{open_call}
 use Rattle.entry.specs.Sizes.{start_size}
 use Rattle.entry.specs.Entry.{start, layout, put}

@@ -1,4 +1,5 @@
-use Rattle.writer.specs.Laws.{put_zero, refused_leaves, inside_leaves}
+use Rattle.writer.specs.Laws.{put_zero, inside_leaves}
+use Rattle.writer.proofs.Leaves.{refused_leaves}
 use Rattle.writer.specs.Writing.{put_refusal, wrong_put, put_call}
 use Rattle.entry.specs.Sizes.{clear_size}
 use Rattle.entry.specs.Entry.{clear, body, layout, put}
