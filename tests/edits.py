@@ -11,7 +11,8 @@ counts for no call.
 
 A refusal shows nothing where only the shape of the code changed, so that the proof file no longer fits. Two things are looked at: the
 replacement keeps the shape of the code, token by token, but for operands, literals and operators of one kind; and what the prover says is about
-a fact and not about names, fields or missing parts of a proof.
+a fact and not about names, fields or missing parts of a proof. Goals are named after the code: where a name changes with the text, the edit
+has pairs for the proof file as well, so that its answers are held against the wrong code.
 
 Every public call that docs/ARCHITECTURE.md lists has an edit, every exported function too, and a crate has two edits or more for each of its
 public calls.
@@ -26,6 +27,8 @@ TOP = os.path.dirname(os.path.dirname(os.path.abspath(__file__)))
 # what the prover says where a proof file no longer fits the code, or a name is unknown
 SHAPE = re.compile(r'has no `|not in scope|has no field|no such|takes \d+ argument|is not a record|unexpected|cannot appear|wrong number'
                    r'|was not admitted')
+# a proof file that follows the names of goals, which are made of the code
+FOLLOWS = re.compile(r'^proofs/.+/(Answers|Invariants)\.antt$')
 # what rt says of an edit, and where the prover says the first thing against it
 LINE = re.compile(r'^rt: must-fail (\w+)/(\S+)\.edit: (.*)$')
 REFUSED = 'refused, as it must be'
@@ -47,7 +50,7 @@ class Pair:
 
 
 def parsed(text):
-    """The pairs of an edit file."""
+    """The pairs of an edit file, but for those by which a proof file follows the others."""
     file, old, pairs = '', '', []
     for line in text.splitlines():
         word, _, rest = line.partition(' ')
@@ -57,7 +60,7 @@ def parsed(text):
             old = rest
         elif word == 'new:':
             pairs.append(Pair(file, old, rest))
-    return pairs
+    return [it for it in pairs if not FOLLOWS.match(it.file)]
 
 
 def shape(code):
@@ -272,6 +275,11 @@ def self_test():
         ('a constant', 'u64 = 9', 'u64 = 8', fact.replace('/f/', '/h/'), False),
     ]
     cases = [(name, [Pair('src/lib.rt', old, new)], said, caught) for name, old, new, said, caught in cases]
+    follows = 'file: proofs/f/Answers.antt\nold: returns-then-a\nnew: returns-then-b\n'
+    follower = 'file: src/lib.rt\nold: , a < b\nnew: , a <= b\n' + follows
+    cases += [('a proof file that follows alone', parsed(follows), fact, True),
+              ('a proof file that follows, and another function is refused', parsed(follower), fact.replace('/f/', '/h/'), True),
+              ('a proof file that follows', parsed(follower), fact, False)]
     cases += [('nothing', [], fact, True), ('two functions, and a third is refused', several, fact.replace('/f/', '/h/'), True),
               ('two functions, and one is refused', several, fact, False)]
     wrong = [name for name, pairs, said, caught in cases if bool(complaints(pairs, lambda file: SOURCE, said)) != caught]

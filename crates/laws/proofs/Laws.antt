@@ -3,7 +3,8 @@
 -- `Yields d image batches o` (specs/Yields) says what the reader's calls give: step after step from position 0, each given the state that the
 -- last one returned, until an end, the steps accept exactly these batches, each where it lies and with its entries where they stand, and end
 -- with the outcome o. `run d calls (fresh buffer)` (specs/Runs) is our writer: any calls with any arguments, refused ones among them, from
--- position 0 with no batch open, each given the state that the call before it returned. Both are folds of what the calls' contracts cite. `batches_of`, `outcome_in` and `boundary` are in specs/Laws.
+-- position 0 with no batch open, each given the state that the call before it returned. Both are folds of what the calls' contracts cite.
+-- `batches_of`, `outcome_in` and `boundary` are in specs/Laws.
 use Rattle.std.specs.Prelude.{ℕ, ◌+◌, ◌≤◌, ◌≡◌, refl, ◌≢◌, Bool, true, false, cond, List, [], ◌++◌, map, length, take, eqb}
 use Rattle.std.proofs.Common.{sym, ◌∙◌, append-nil, arith, length-append, length-take-le}
 use Rattle.number.specs.Limit.{limit}
