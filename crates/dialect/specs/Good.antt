@@ -47,9 +47,9 @@ is_good d h =
 
 -- both named dialects are good
 pub shipped_good : good SHIPPED ≡ true
-unfolding good zeros apart
+unfolding good apart
 shipped_good = refl
 
 pub test_good : good TEST ≡ true
-unfolding good zeros apart
+unfolding good apart
 test_good = refl

@@ -1,20 +1,23 @@
 -- What the listing's call answered is what the dump prints, and what is behind the longest journal changes nothing.
-use Rattle.std.proofs.Common.{◌≡◌, ℕ, zero, suc, ◌+◌, ◌*◌, ◌≤◌, ◌<◌, Bool, true, false, not, List, ◌++◌, Option, None, Some, IfSome, length, take, drop, refl, sym, ap, ◌∙◌, arith, ltb, lt-ltb, le-ltb, append-nil, subst, length-append, length-take-le, take_at}
+use Rattle.std.proofs.Common.{◌≡◌, ℕ, ◌+◌, ◌*◌, ◌≤◌, ◌<◌, Bool, true, false, not, List, ◌++◌, Option, None, Some, IfSome, length, take, drop, refl, sym, ap, ◌∙◌, arith, ltb, lt-ltb, le-ltb, append-nil, subst, length-append, length-take-le, take_at}
 use borrow.Author.Tests.{ltb-true, ltb-false}
 use Rattle.std.specs.Io.KnownBytes.{Appends, Consumes, IsAtEnd}
 use Rattle.dialect.specs.declared.Dialect.{Dialect}
 use Rattle.dialect.specs.Dialect.{good}
+use Rattle.std.specs.Prelude.{Result, Ok, Err, ⊤}
+use Rattle.refusal.specs.declared.Refusal.{Refusal}
+use Rattle.refusal.specs.declared.Refusal.TheVariants as refusal
 use Rattle.refusal.specs.Refusal.{when_of, first_of}
-use Rattle.listing.specs.declared.Listed.TheVariants.{Wrote, Refused}
-use Rattle.listing.specs.Listing.{list_refusal, listing, listed, or_refused}
+use Rattle.encode.specs.Encoding.{settled}
+use Rattle.listing.specs.Listing.{list_refusal, listing, listed}
 use Rattle.dumping.specs.Dumping.{dump_refusal, refused_line, said, dumped}
 
 -- where there is room for the longest journal's listing, the listing's call refuses what the dump refuses
 room_enough : (d : Dialect) (n : ℕ) → list_refusal d n 262_272 ≡ dump_refusal d n
-unfolding list_refusal dump_refusal first_of when_of
-room_enough d n = ap (first_of (when_of (not (good d)) 20)) (go (ltb 65_536 n) refl)
+unfolding list_refusal dump_refusal
+room_enough d n = ap (first_of (when_of (not (good d)) refusal.Dialect)) (go (ltb 65_536 n) refl)
   where
-    go : (b : Bool) → ltb 65_536 n ≡ b → first_of (when_of b 21) (when_of (ltb 262_272 (4 * n + 128)) 27) ≡ when_of b 21
+    go : (b : Bool) → ltb 65_536 n ≡ b → first_of (when_of b refusal.TooLong) (when_of (ltb 262_272 (4 * n + 128)) refusal.NoRoom) ≡ when_of b refusal.TooLong
     go true e = refl
     go false e = let h : n ≤ 65_536 = ltb-false 65_536 n e in rw (le-ltb 262_272 (4 * n + 128) (omega arith)) refl
 
@@ -22,31 +25,31 @@ module _ (d : Dialect) (s out : List ℕ) (room : length out ≡ 262_272) where
   same_refusal : list_refusal d (length s) (length out) ≡ dump_refusal d (length s)
   same_refusal = ap (list_refusal d (length s)) room ∙ room_enough d (length s)
 
-  pub wrote_dump : (ys : List ℕ) (k : ℕ) → Wrote k ≡ (listed d s out).answer → ys ≡ (listed d s out).buffer → take k ys ≡ dumped d s
-  unfolding listed or_refused dumped said
+  pub wrote_dump : (ys : List ℕ) (k : ℕ) → Ok k ≡ (listed d s out).answer → ys ≡ (listed d s out).buffer → take k ys ≡ dumped d s
+  unfolding listed dumped said
   wrote_dump ys k a b = go (list_refusal d (length s) (length out)) refl a b
     where
-      go : (n : ℕ) → list_refusal d (length s) (length out) ≡ n → Wrote k ≡ (or_refused n (listing d s) out).answer → ys ≡ (or_refused n (listing d s) out).buffer → take k ys ≡ said (dump_refusal d (length s)) (listing d s)
-      go zero e a b =
+      go : (r : Result ⊤ Refusal) → list_refusal d (length s) (length out) ≡ r → Ok k ≡ (settled r (listing d s) out).answer → ys ≡ (settled r (listing d s) out).buffer → take k ys ≡ said (dump_refusal d (length s)) (listing d s)
+      go (Ok u) e a b =
           let k_is : k ≡ length (listing d s) = cc in
           rw (sym same_refusal ∙ e, b) (take_at (listing d s) (drop (length (listing d s)) out) k (sym k_is))
-      go (suc n) e a b = let z : ◌≡◌ {A = ℕ} 0 1 = cc in absurd (omega arith)
+      go (Err r) e a b = absurd (cc)
 
-  pub refused_dump : (k : ℕ) → Refused k ≡ (listed d s out).answer → refused_line k ≡ dumped d s
-  unfolding listed or_refused dumped said
-  refused_dump k a = go (list_refusal d (length s) (length out)) refl a
+  pub refused_dump : (r : Refusal) → Err r ≡ (listed d s out).answer → refused_line r ≡ dumped d s
+  unfolding listed dumped said
+  refused_dump r a = go (list_refusal d (length s) (length out)) refl a
     where
-      go : (n : ℕ) → list_refusal d (length s) (length out) ≡ n → Refused k ≡ (or_refused n (listing d s) out).answer → refused_line k ≡ said (dump_refusal d (length s)) (listing d s)
-      go zero e a = let z : ◌≡◌ {A = ℕ} 0 1 = cc in absurd (omega arith)
-      go (suc n) e a = let k_is : k ≡ suc n = cc in rw (sym same_refusal ∙ e, k_is) refl
+      go : (q : Result ⊤ Refusal) → list_refusal d (length s) (length out) ≡ q → Err r ≡ (settled q (listing d s) out).answer → refused_line r ≡ said (dump_refusal d (length s)) (listing d s)
+      go (Ok u) e a = absurd (cc)
+      go (Err q) e a = let r_is : r ≡ q = cc in rw (sym same_refusal ∙ e, r_is) refl
 
 -- a front above 65,536 bytes is refused as the whole is
 pub front_refused : (d : Dialect) (s t : List ℕ) → 65_536 < length s → dumped d s ≡ dumped d (s ++ t)
-unfolding dumped dump_refusal said first_of when_of
+unfolding dumped dump_refusal said
 front_refused d s t h =
     rw (lt-ltb 65_536 (length s) h, lt-ltb 65_536 (length (s ++ t)) (omega (arith, length-append s t))) (go (not (good d)))
   where
-    go : (b : Bool) → said (first_of (when_of b 20) (when_of true 21)) (listing d s) ≡ said (first_of (when_of b 20) (when_of true 21)) (listing d (s ++ t))
+    go : (b : Bool) → said (first_of (when_of b refusal.Dialect) (when_of true refusal.TooLong)) (listing d s) ≡ said (first_of (when_of b refusal.Dialect) (when_of true refusal.TooLong)) (listing d (s ++ t))
     go true = refl
     go false = refl
 

@@ -1,1 +1,2 @@
 pub mod Journal
+pub mod Renamed

@@ -1,5 +1,5 @@
 // What the dump programs share: a journal from standard input, listed on standard output.
-// Public: dump, and read_full.
+// Public: dump, print_listing and read_full.
 #![tactic(auto)]
 
 ghost use Rattle.std.specs.Prelude.{◌≡◌, ◌≤◌, ◌<◌, length, take, IfOk, OnOk, IfErr, IfSome};
@@ -7,7 +7,8 @@ ghost use Rattle.std.specs.Io.KnownBytes.{Appends, Consumes, IsAtEnd, Keeps};
 ghost use Rattle.dumping.specs.Dumping.{refused_line, dumped, IsUnread};
 
 use dialect::Dialect;
-use listing::{LONGEST, Listed, ROOM, list};
+use listing::{LONGEST, ROOM, list};
+use refusal::Refusal;
 use std::io::{self, Read, Write};
 
 // Why a journal was not listed.
@@ -24,6 +25,7 @@ pub fn read_full<R: Read>(reader: &mut R, buf: &mut [u8]) -> io::Result<usize>
     ensures end { IfOk result (λ n. n < length buf.new → IsAtEnd (R.remaining reader.new)) }
 {
     let mut done = 0;
+    // No `for`: a turn takes as many bytes as come.
     while done < buf.len() {
         let n = reader.read(&mut buf[done..])?;
         if n == 0 {
@@ -34,19 +36,20 @@ pub fn read_full<R: Read>(reader: &mut R, buf: &mut [u8]) -> io::Result<usize>
     Ok(done)
 }
 
-fn print_refused<W: Write>(writer: &mut W, number: u32) -> io::Result<()>
-    ensures { OnOk result (Appends (W.contents writer.old) (W.contents writer.new) (refused_line number)) }
+fn print_refused<W: Write>(writer: &mut W, refusal: Refusal) -> io::Result<()>
+    ensures { OnOk result (Appends (W.contents writer.old) (W.contents writer.new) (refused_line refusal)) }
 {
-    writeln!(writer, "refused {number}")
+    writeln!(writer, "refused {refusal}")
 }
 
-fn print_listing<W: Write>(writer: &mut W, image: &[u8], d: Dialect) -> io::Result<()>
+// The listing of an image, or the line of its refusal.
+pub fn print_listing<W: Write>(writer: &mut W, image: &[u8], d: Dialect) -> io::Result<()>
     ensures { OnOk result (Appends (W.contents writer.old) (W.contents writer.new) (dumped d image.now)) }
 {
     let mut out = [0u8; ROOM];
     match list(image, d, &mut out) {
-        Listed::Wrote(bytes) => writer.write_all(&out[..bytes]),
-        Listed::Refused(number) => print_refused(writer, number),
+        Ok(bytes) => writer.write_all(&out[..bytes]),
+        Err(refusal) => print_refused(writer, refusal),
     }
 }
 
@@ -57,14 +60,8 @@ fn dump_input<R: Read, W: Write>(reader: &mut R, writer: &mut W, d: Dialect) -> 
     ensures unread { IfErr result (λ e. IsUnread e → Keeps (W.contents writer.old) (W.contents writer.new)) }
 {
     let mut image = [0u8; LONGEST + 1];
-    let n = match read_full(reader, &mut image) {
-        Ok(n) => n,
-        Err(e) => return Err(Failure::Input(e)),
-    };
-    match print_listing(writer, &image[..n], d) {
-        Ok(()) => Ok(()),
-        Err(e) => Err(Failure::Output(e)),
-    }
+    let n = read_full(reader, &mut image).map_err(Failure::Input)?;
+    print_listing(writer, &image[..n], d).map_err(Failure::Output)
 }
 
 pub fn dump(rt: &(impl Input + Print + Eprint), d: Dialect) -> io::Result<()> {

@@ -20,7 +20,7 @@ unfolding puts
 end_shape checksum magic = rw (append-nil magic)
 
 pub head_shape : (code none keyspace key value : ℕ)
-    → ((2 ∷ code ∷ none ∷ []) ++ bytes 8 keyspace) ++ (bytes 2 key ++ bytes 4 value ++ bytes 4 value) ≡ joined (head_row code none keyspace key value)
+    → ((((2 ∷ code ∷ none ∷ []) ++ bytes 8 keyspace) ++ bytes 2 key) ++ bytes 4 value) ++ bytes 4 value ≡ joined (head_row code none keyspace key value)
 unfolding puts
 head_shape code none keyspace key value = simp (append_assoc, append-nil)
 

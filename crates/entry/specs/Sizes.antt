@@ -1,7 +1,7 @@
 -- How long entries are, and how they stand one behind another. Assumes nothing.
-use Rattle.std.specs.Prelude.{ℕ, ◌+◌, ◌≡◌, Bool, true, false, ◌||◌, eqb}
+use Rattle.std.specs.Prelude.{ℕ, ◌+◌, ◌≡◌, true}
 use Rattle.std.proofs.Math.Path.{refl, sym, ap}
-use Rattle.std.proofs.Common.{◌∙◌, arith, eq-eqb}
+use Rattle.std.proofs.Common.{◌∙◌, arith}
 use mathlib.Core.List.{List, [], ◌∷◌, ◌++◌, append-nil}
 use Rattle.std.proofs.Math.ListN.{length, length-append}
 use Rattle.number.specs.Laws.{length_bytes}
@@ -79,8 +79,7 @@ module _ (d : Dialect) where
 
   pub item_size : (ty ks : ℕ) (key val : List ℕ) → length (put d (body (item ty ks key val)) []) ≡ 21 + length key + length val
   item_size ty ks key val =
-      let h = joined (head_row ty d.none ks (length key) (length val)) in
-      ap length (item_parts ty ks key val) ∙ length-append h (key ++ val) ∙ rw (head_size ty d.none ks (length key) (length val), length-append key val) (omega arith)
+      rw (item_parts ty ks key val, length-append, head_size, length-append) (omega arith)
 
   pub end_size : (s : ℕ) → length (put d (end s) []) ≡ 9 + length (trailer d)
   unfolding layout puts
@@ -88,23 +87,12 @@ module _ (d : Dialect) where
 
   pub one_size : (h : List ℕ → ℕ) (q : ℕ) (p : Put) → length (put_batch d h q (p ∷ [])) ≡ 22 + length (trailer d) + length (put d (body p) [])
   unfolding put_all
-  one_size h q p =
-      let S = put d (start 1 q) [] in
-      let B = put d (body p) [] in
-      let E = put d (end (h (hashed d 1 q (p ∷ [])))) [] in
-      let e : length (put_batch d h q (p ∷ [])) ≡ length S + (length B + length E) = ap length (batch_parts h q (p ∷ [])) ∙ length-append S (B ++ E) ∙ ap (λ (n : ℕ). length S + n) (length-append B E) in
-      omega (arith, e, start_size 1 q, end_size (h (hashed d 1 q (p ∷ []))))
+  one_size h q p = rw (batch_parts h q (p ∷ []), length-append, length-append, start_size, end_size) (omega arith)
 
   -- each type has a code
-  or_right : (a b : Bool) → b ≡ true → (a || b) ≡ true
-  or_right true b e = refl
-  or_right false b e = e
-
   pub code_is_type : (t : ValueType) → is_type d (code_of d t) ≡ true
   unfolding is_type
-  code_is_type Value = rw (eq-eqb d.value d.value refl)
-  code_is_type Tombstone = or_right (eqb d.tombstone d.value) _ (rw (eq-eqb d.tombstone d.tombstone refl))
-  code_is_type WeakTombstone = or_right (eqb d.weak d.value) _ (or_right (eqb d.weak d.tombstone) _ (rw (eq-eqb d.weak d.weak refl)))
-  code_is_type Indirection =
-      or_right (eqb d.indirection d.value) _
-      (or_right (eqb d.indirection d.tombstone) _ (or_right (eqb d.indirection d.weak) _ (eq-eqb d.indirection d.indirection refl)))
+  code_is_type Value = grind arith
+  code_is_type Tombstone = grind arith
+  code_is_type WeakTombstone = grind arith
+  code_is_type Indirection = grind arith

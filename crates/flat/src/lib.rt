@@ -1,19 +1,28 @@
-// The values of the other crates as what crosses to C: structs of numbers. An enum becomes a number and the fields of all its variants, a
-// flag 0 or not. For crate pierloft: the structs; `flat_*`, from a call's answer; `*_of`, from what C hands over; `is_type`, `refused_*`, `span`. None is
-// a public call.
+// The values of the other crates as what crosses to C: structs of numbers, each with its conversions. An enum becomes a number and the fields
+// of all its variants, an Option or a flag 0 or not, since C reads them so (include/pierloft.h). For crate pierloft; none is a public call.
 #![tactic(auto)]
 
-ghost use Rattle.std.specs.Prelude.{◌≡◌, cond, ◌≤◌, leb};
-ghost use Rattle.flat.specs.Flat.{type_number, no_entry, flat_start, flat_item, flat_end, flat_clear, flat_entry, no_batch, reader_of, flat_reader, flat_stepped, refused_count, flat_keep, span_of, flat_hash, type_of, flat_written, writer_of, flat_writer, refused_reply, flat_reply};
+ghost use Rattle.std.specs.Prelude.{◌≡◌};
+ghost use Rattle.flat.specs.Flat.{type_number, flat_entry, reader_of, flat_reader, no_batch, flat_stepped, refused_count, flat_count, span_or, flat_hash, flat_absorbed, writer_of, flat_writer, refused_reply, flat_reply};
 
 use dialect::{Dialect, ValueType};
-use entry::Decoded;
-use reader::{Answer, Keep, Reader, Stepped};
+use entry::{Decoded, NoEntry};
+use reader::{NoBatch, Reader, Stepped};
+use refusal::{Refusal, answer_number};
+use stream::Hasher;
+use view::Span;
 use writer::{Reply, WriterState};
-use xxh3::Hashed;
 
+// By its C name, and first: the layouts are held to their sum in the order of the sources.
 #[repr(C)]
 #[derive(Clone, Copy)]
+pub struct Absorbed {
+    pub number: u32,
+    pub state: Hasher,
+}
+
+#[repr(C)]
+#[derive(Clone, Copy, Default)]
 pub struct FlatEntry {
     pub number: u32,
     pub tag: u8,
@@ -30,7 +39,7 @@ pub struct FlatEntry {
 }
 
 #[repr(C)]
-#[derive(Clone, Copy)]
+#[derive(Clone, Copy, Default)]
 pub struct FlatReader {
     pub position: usize,
     pub ended: u32,
@@ -38,7 +47,7 @@ pub struct FlatReader {
 }
 
 #[repr(C)]
-#[derive(Clone, Copy)]
+#[derive(Clone, Copy, Default)]
 pub struct FlatStepped {
     pub number: u32,
     pub accepted: u32,
@@ -92,206 +101,90 @@ pub struct FlatReply {
 
 // ---- entries
 
+// The type's number; of a code that no type has, an indirection's.
+#[tactic(auto, unfolding(crate::specs::Flat::type_number, dialect::specs::Dialect::type_of_code))]
 fn type_number(d: Dialect, code: u8) -> u8
     ensures { result ≡ type_number d code }
 {
-    if code == d.value {
-        return 0;
-    }
-    if code == d.tombstone {
-        return 1;
-    }
-    if code == d.weak {
-        return 2;
-    }
-    3
+    let known = d.value_type(code);
+    known.unwrap_or(ValueType::Indirection).number()
 }
 
-fn no_entry(number: u32) -> FlatEntry
-    ensures { result ≡ no_entry number }
+// A function and no From: a type's code has a meaning under a dialect alone.
+pub fn flat_entry(d: Dialect, answer: Result<Decoded, NoEntry>) -> FlatEntry
+    ensures { result ≡ flat_entry d answer }
 {
-    FlatEntry {
-        number,
-        tag: 0,
-        value_type: 0,
-        count: 0,
-        seqno: 0,
-        keyspace: 0,
-        checksum: 0,
-        key_at: 0,
-        key_len: 0,
-        value_at: 0,
-        value_len: 0,
-        next: 0,
-    }
-}
-
-fn flat_item(
-    value_type: u8,
-    keyspace: u64,
-    key_at: usize,
-    key_len: usize,
-    value_at: usize,
-    value_len: usize,
-    next: usize,
-) -> FlatEntry
-    ensures { result ≡ flat_item value_type keyspace key_at key_len value_at value_len next }
-{
-    FlatEntry {
-        number: 0,
-        tag: 2,
-        value_type,
-        count: 0,
-        seqno: 0,
-        keyspace,
-        checksum: 0,
-        key_at,
-        key_len,
-        value_at,
-        value_len,
-        next,
-    }
-}
-
-fn flat_start(count: u64, seqno: u64, next: usize) -> FlatEntry
-    ensures { result ≡ flat_start count seqno next }
-{
-    FlatEntry {
-        number: 0,
-        tag: 1,
-        value_type: 0,
-        count,
-        seqno,
-        keyspace: 0,
-        checksum: 0,
-        key_at: 0,
-        key_len: 0,
-        value_at: 0,
-        value_len: 0,
-        next,
-    }
-}
-
-fn flat_end(checksum: u64, next: usize) -> FlatEntry
-    ensures { result ≡ flat_end checksum next }
-{
-    FlatEntry {
-        number: 0,
-        tag: 3,
-        value_type: 0,
-        count: 0,
-        seqno: 0,
-        keyspace: 0,
-        checksum,
-        key_at: 0,
-        key_len: 0,
-        value_at: 0,
-        value_len: 0,
-        next,
-    }
-}
-
-fn flat_clear(keyspace: u64, next: usize) -> FlatEntry
-    ensures { result ≡ flat_clear keyspace next }
-{
-    FlatEntry {
-        number: 0,
-        tag: 4,
-        value_type: 0,
-        count: 0,
-        seqno: 0,
-        keyspace,
-        checksum: 0,
-        key_at: 0,
-        key_len: 0,
-        value_at: 0,
-        value_len: 0,
-        next,
-    }
-}
-
-pub fn flat_entry(d: Dialect, e: Decoded) -> FlatEntry
-    ensures { result ≡ flat_entry d e }
-{
-    match e {
-        Decoded::Start { count, seqno, next } => flat_start(count, seqno, next),
-        Decoded::Item {
-            value_type,
+    match answer {
+        Ok(Decoded::Start { count, seqno, next }) => FlatEntry {
+            tag: 1,
+            count,
+            seqno,
+            next,
+            ..FlatEntry::default()
+        },
+        Ok(
+            Decoded::Item {
+                value_type,
+                keyspace,
+                key_at,
+                key_len,
+                value_at,
+                value_len,
+                next,
+            },
+        ) => FlatEntry {
+            tag: 2,
+            value_type: type_number(d, value_type),
             keyspace,
             key_at,
             key_len,
             value_at,
             value_len,
             next,
-        } => flat_item(
-            type_number(d, value_type),
-            keyspace,
-            key_at,
-            key_len,
-            value_at,
-            value_len,
+            ..FlatEntry::default()
+        },
+        Ok(Decoded::End { checksum, next }) => FlatEntry {
+            tag: 3,
+            checksum,
             next,
-        ),
-        Decoded::End { checksum, next } => flat_end(checksum, next),
-        Decoded::Clear { keyspace, next } => flat_clear(keyspace, next),
-        Decoded::Fault(n) => no_entry(n),
-        Decoded::Refused(n) => no_entry(n),
+            ..FlatEntry::default()
+        },
+        Ok(Decoded::Clear { keyspace, next }) => FlatEntry {
+            tag: 4,
+            keyspace,
+            next,
+            ..FlatEntry::default()
+        },
+        Err(reason) => FlatEntry {
+            number: reason.number(),
+            ..FlatEntry::default()
+        },
     }
 }
 
 // ---- reading
 
-fn flag(x: bool) -> u32
-    ensures { result ≡ cond x 1 0 }
-{
-    x as u32
-}
+impl From<FlatReader> for Reader {
+    ghost from_gives = { λ flat r. r ≡ reader_of flat };
 
-pub fn reader_of(flat: FlatReader) -> Reader
-    ensures { result ≡ reader_of flat }
-{
-    Reader {
-        position: flat.position,
-        ended: flat.ended != 0,
-        outcome: flat.outcome,
+    fn from(flat: FlatReader) -> Reader {
+        let ended = flat.ended != 0;
+        Reader {
+            position: flat.position,
+            outcome: if ended { Some(flat.outcome) } else { None },
+        }
     }
 }
 
-fn flat_reader(r: Reader) -> FlatReader
-    ensures { result ≡ flat_reader r }
-{
-    FlatReader {
-        position: r.position,
-        ended: flag(r.ended),
-        outcome: r.outcome,
-    }
-}
+impl From<Reader> for FlatReader {
+    ghost from_gives = { λ r flat. flat ≡ flat_reader r };
 
-pub fn flat_stepped(came: FlatReader, s: Stepped) -> FlatStepped
-    ensures { result ≡ flat_stepped came s }
-{
-    let answer = s.answer;
-    let reader = s.reader;
-    match answer {
-        Answer::Accepted {
-            seqno,
-            count,
-            body,
-            end,
-            next,
-        } => FlatStepped {
-            number: 0,
-            accepted: 1,
-            outcome: 0,
-            seqno,
-            count,
-            body,
-            end,
-            next,
-            reader: flat_reader(reader),
-        },
-        Answer::Ended(outcome) => no_batch(0, outcome, flat_reader(reader)),
-        Answer::Refused(number) => no_batch(number, 0, came),
+    fn from(r: Reader) -> FlatReader {
+        FlatReader {
+            position: r.position,
+            ended: u32::from(r.outcome.is_some()),
+            outcome: r.outcome.unwrap_or(0),
+        }
     }
 }
 
@@ -300,135 +193,158 @@ fn no_batch(number: u32, outcome: u32, reader: FlatReader) -> FlatStepped
 {
     FlatStepped {
         number,
-        accepted: 0,
         outcome,
-        seqno: 0,
-        count: 0,
-        body: 0,
-        end: 0,
-        next: 0,
         reader,
+        ..FlatStepped::default()
     }
 }
 
-pub fn refused_count(number: u32) -> FlatCount
-    ensures { result ≡ refused_count number }
-{
-    FlatCount { number, bytes: 0 }
+impl FlatReader {
+    // What a step from here came to.
+    pub fn stepped(self, s: Stepped) -> FlatStepped
+        ensures { result ≡ flat_stepped self s }
+    {
+        let reader = FlatReader::from(s.reader);
+        match s.answer {
+            Ok(batch) => FlatStepped {
+                accepted: 1,
+                seqno: batch.seqno,
+                count: batch.count,
+                body: batch.body,
+                end: batch.end,
+                next: batch.next,
+                reader,
+                ..FlatStepped::default()
+            },
+            Err(NoBatch::Ended(outcome)) => {
+                let number = outcome.number();
+                no_batch(0, number, reader)
+            }
+            Err(NoBatch::Refused(refusal)) => no_batch(refusal.number(), 0, self),
+        }
+    }
 }
 
-pub fn flat_keep(k: Keep) -> FlatCount
-    ensures { result ≡ flat_keep k }
-{
-    match k {
-        Keep::Bytes(bytes) => FlatCount { number: 0, bytes },
-        Keep::Refused(number) => refused_count(number),
+// ---- numbers of bytes
+
+impl FlatCount {
+    pub fn refused(number: u32) -> FlatCount
+        ensures { result ≡ refused_count number }
+    {
+        FlatCount { number, bytes: 0 }
+    }
+}
+
+impl From<Result<usize, Refusal>> for FlatCount {
+    ghost from_gives = { λ answer flat. flat ≡ flat_count answer };
+
+    fn from(answer: Result<usize, Refusal>) -> FlatCount {
+        match answer {
+            Ok(bytes) => FlatCount { number: 0, bytes },
+            Err(refusal) => FlatCount::refused(refusal.number()),
+        }
     }
 }
 
 // ---- views
 
-// A helper of the exported views, no public call: it assumes that the part does not end before it begins.
-pub fn span(number: u32, from: usize, to: usize) -> FlatSpan
-    requires { from ≤ to }
-    ensures { result ≡ span_of number from to }
-{
-    FlatSpan {
-        number,
-        at: from,
-        length: to - from,
+// A part, or the number that says why there is none.
+impl From<Result<Span, u32>> for FlatSpan {
+    ghost from_gives = { λ answer flat. flat ≡ span_or answer };
+
+    fn from(answer: Result<Span, u32>) -> FlatSpan {
+        match answer {
+            Ok(span) => FlatSpan {
+                number: 0,
+                at: span.from,
+                length: span.to.saturating_sub(span.from),
+            },
+            Err(number) => FlatSpan {
+                number,
+                at: 0,
+                length: 0,
+            },
+        }
     }
 }
 
 // ---- XXH3-64
 
-pub fn flat_hash(h: Hashed) -> FlatHash
-    ensures { result ≡ flat_hash h }
-{
-    match h {
-        Hashed::Sum(hash) => FlatHash { number: 0, hash },
-        Hashed::Refused(number) => FlatHash { number, hash: 0 },
+impl From<Result<u64, Refusal>> for FlatHash {
+    ghost from_gives = { λ answer flat. flat ≡ flat_hash answer };
+
+    fn from(answer: Result<u64, Refusal>) -> FlatHash {
+        match answer {
+            Ok(hash) => FlatHash { number: 0, hash },
+            Err(refusal) => {
+                let number = refusal.number();
+                FlatHash { number, hash: 0 }
+            }
+        }
     }
 }
 
-// ---- entries written
+impl From<stream::Absorbed> for Absorbed {
+    ghost from_gives = { λ a flat. flat ≡ flat_absorbed a };
 
-// Whether a number stands for one of the four types of value.
-pub fn is_type(number: u8) -> bool
-    ensures { result ≡ leb number 3 }
-{
-    number <= 3
-}
-
-pub fn type_of(number: u8) -> ValueType
-    ensures { result ≡ type_of number }
-{
-    if number == 0 {
-        return ValueType::Value;
-    }
-    if number == 1 {
-        return ValueType::Tombstone;
-    }
-    if number == 2 {
-        return ValueType::WeakTombstone;
-    }
-    ValueType::Indirection
-}
-
-pub fn flat_written(a: encode::Answer) -> FlatCount
-    ensures { result ≡ flat_written a }
-{
-    match a {
-        encode::Answer::Wrote(bytes) => FlatCount { number: 0, bytes },
-        encode::Answer::Refused(number) => refused_count(number),
+    fn from(a: stream::Absorbed) -> Absorbed {
+        let number = answer_number(a.answer);
+        let state = a.state;
+        Absorbed { number, state }
     }
 }
 
 // ---- the writer
 
-pub fn writer_of(flat: FlatWriter) -> WriterState
-    ensures { result ≡ writer_of flat }
-{
-    WriterState {
-        position: flat.position,
-        start: flat.start,
-        open: flat.open != 0,
-        left: flat.left,
+impl From<FlatWriter> for WriterState {
+    ghost from_gives = { λ flat s. s ≡ writer_of flat };
+
+    fn from(flat: FlatWriter) -> WriterState {
+        WriterState {
+            position: flat.position,
+            start: flat.start,
+            open: flat.open != 0,
+            left: flat.left,
+        }
     }
 }
 
-fn flat_writer(s: WriterState) -> FlatWriter
-    ensures { result ≡ flat_writer s }
-{
-    FlatWriter {
-        position: s.position,
-        start: s.start,
-        open: flag(s.open),
-        left: s.left,
+impl From<WriterState> for FlatWriter {
+    ghost from_gives = { λ s flat. flat ≡ flat_writer s };
+
+    fn from(s: WriterState) -> FlatWriter {
+        FlatWriter {
+            position: s.position,
+            start: s.start,
+            open: u32::from(s.open),
+            left: s.left,
+        }
     }
 }
 
-pub fn refused_reply(came: FlatWriter, number: u32) -> FlatReply
-    ensures { result ≡ refused_reply came number }
-{
-    FlatReply {
-        number,
-        bytes: 0,
-        writer: came,
+impl FlatWriter {
+    // A call refused from here, with the state as it came.
+    pub fn refused(self, number: u32) -> FlatReply
+        ensures { result ≡ refused_reply self number }
+    {
+        FlatReply {
+            number,
+            bytes: 0,
+            writer: self,
+        }
     }
-}
 
-pub fn flat_reply(came: FlatWriter, r: Reply) -> FlatReply
-    ensures { result ≡ flat_reply came r }
-{
-    let answer = r.answer;
-    let state = r.state;
-    match answer {
-        encode::Answer::Wrote(bytes) => FlatReply {
-            number: 0,
-            bytes,
-            writer: flat_writer(state),
-        },
-        encode::Answer::Refused(number) => refused_reply(came, number),
+    // What a call from here came to.
+    pub fn reply(self, r: Reply) -> FlatReply
+        ensures { result ≡ flat_reply self r }
+    {
+        match r.answer {
+            Ok(bytes) => FlatReply {
+                number: 0,
+                bytes,
+                writer: FlatWriter::from(r.state),
+            },
+            Err(refusal) => self.refused(refusal.number()),
+        }
     }
 }

@@ -1,27 +1,28 @@
 -- THE CONVERSE: given room, true counts and keys of 1 to 65,535 bytes, the calls made from batches are all accepted, and the ledger is
 -- those batches.
 use Prim.Native.Nat.{ℕ, suc, ◌+◌, ◌-◌, ◌≤◌}
-use Rattle.std.specs.Prelude.{◌≡◌, Bool, true, false}
+use Rattle.std.specs.Prelude.{◌≡◌, Bool, true, false, Result, Ok, is_ok, IsOk, ⊤}
 use Rattle.std.proofs.Math.Path.{refl, ap}
 use Rattle.std.proofs.Common.{sym, subst, ◌∙◌, add-zero}
 use mathlib.Core.List.{List, [], ◌∷◌, ◌++◌, map, append-nil}
 use native.Mathlib.Omega.{arith}
 use Rattle.std.proofs.Math.ListN.{length, length-append}
 use Rattle.std.proofs.Math.Seq.{append_snoc}
-use borrow.Author.Tests.{ne_eqb, le-ltb}
+use borrow.Author.Tests.{ne_eqb}
 use Rattle.number.specs.Limit.{limit}
 use Rattle.number.specs.Part.{over, length_over}
 use Rattle.xxh3.specs.Xxh3.{xxh3_64}
 use Rattle.dialect.specs.declared.Dialect.{Dialect}
 use Rattle.dialect.specs.Dialect.{good}
-use Rattle.refusal.specs.Refusal.{first_of, when_of, buffer_refusal}
+use Rattle.dialect.specs.Asked.{buffer_refusal}
+use Rattle.refusal.specs.declared.Refusal.{Refusal}
 use Rattle.entry.specs.Entry.{Put, start, body, end, put, put_all, hashed}
 use Rattle.entry.specs.Sizes.{put_append, batch_parts, start_size}
 use Rattle.encode.specs.Laws.{end_length}
 use Rattle.writer.specs.Writing.{out_of_range, no_room, shared_refusal, open_refusal, put_refusal, close_refusal, wrong_put, Outcome, settle, inside, outside, wrote, standing, open_call, put_call, close_call}
 use Rattle.writer.specs.Laws.{settle_done}
 use Rattle.laws.specs.Journals.{Closed, bytes_of, journal}
-use Rattle.laws.specs.Runs.{Given, item, clear, Call, opens, puts, closes, Ledger, ledger_of, Standing, is_wrote, coded, result, note, settled, after, run, answers, fresh}
+use Rattle.laws.specs.Runs.{Given, item, clear, Call, opens, puts, closes, Ledger, ledger_of, Standing, coded, result, note, settled, after, run, answers, fresh}
 use Rattle.laws.specs.Accepted.{Wanted, calls_of, KeyFits, AllKeyFit, EachWritable, AllWrote, as_closed}
 
 module _ (d : Dialect) where
@@ -42,46 +43,27 @@ module _ (d : Dialect) where
       omega (arith, e, start_size d (length ps) b.seqno, end_length d sum g)
 
   key_right : (g : Given) → KeyFits g → wrong_put (coded d g) ≡ false
-  unfolding KeyFits coded wrong_put
+  unfolding KeyFits coded
   key_right (item type keyspace key value) h =
       let a = h.0 in
-      let n : length key ≡ 0 → ⊥ = λ z. omega (arith, z, a) in
-      rw (ne_eqb (length key) 0 n) (le-ltb 65_535 (length key) h.1)
+      let b = h.1 in
+      grind arith
   key_right (clear keyspace) h = refl
 
   module _ (g : good d ≡ true) (len : ℕ) (short : len ≤ limit) where
     -- ---- no refusal
 
-    none_outside : (at : ℕ) → at ≤ len → shared_refusal d len (outside at) ≡ 0
-    unfolding shared_refusal buffer_refusal out_of_range first_of when_of
-    none_outside at w = rw (g, le-ltb limit len short, le-ltb len at w)
+    open_none : (count at : ℕ) → 1 ≤ count → count ≤ limit → at + (22 + d.length) ≤ len → open_refusal d len (outside at) count ≡ Ok tt
+    unfolding open_refusal shared_refusal buffer_refusal out_of_range no_room
+    open_none count at some few room = grind arith
 
-    none_inside : (from left at : ℕ) → at ≤ len → from + 13 ≤ at → left ≤ limit → shared_refusal d len (inside from left at) ≡ 0
-    unfolding shared_refusal buffer_refusal out_of_range first_of when_of
-    none_inside from left at w s f = rw (g, le-ltb limit len short, le-ltb len at w, le-ltb at (from + 13) s, le-ltb limit left f)
+    put_none : (from left at : ℕ) (wrong : Bool) (size : ℕ) → suc left ≤ limit → from + 13 ≤ at → wrong ≡ false → at + (size + (9 + d.length)) ≤ len → put_refusal d len (inside from (suc left) at) wrong size ≡ Ok tt
+    unfolding put_refusal shared_refusal buffer_refusal out_of_range no_room
+    put_none from left at wrong size few s e room = grind arith
 
-    open_none : (count at : ℕ) → 1 ≤ count → count ≤ limit → at + (22 + d.length) ≤ len → open_refusal d len (outside at) count ≡ 0
-    unfolding open_refusal no_room first_of when_of
-    open_none count at some few room =
-        let w : at ≤ len = omega arith in
-        let m : 22 + d.length ≤ len - at = omega arith in
-        let n : count ≡ 0 → ⊥ = λ z. omega (arith, z, some) in
-        rw (none_outside at w, le-ltb limit count few, ne_eqb count 0 n, le-ltb (len - at) (22 + d.length) m)
-
-    put_none : (from left at : ℕ) (wrong : Bool) (size : ℕ) → suc left ≤ limit → from + 13 ≤ at → wrong ≡ false → at + (size + (9 + d.length)) ≤ len → put_refusal d len (inside from (suc left) at) wrong size ≡ 0
-    unfolding put_refusal no_room first_of when_of
-    put_none from left at wrong size few s e room =
-        let w : at ≤ len = omega arith in
-        let m : size + (9 + d.length) ≤ len - at = omega arith in
-        let n : suc left ≡ 0 → ⊥ = λ z. omega (arith, z) in
-        rw (none_inside from (suc left) at w s few, ne_eqb (suc left) 0 n, e, le-ltb (len - at) (size + (9 + d.length)) m)
-
-    close_none : (from at : ℕ) → from + 13 ≤ at → at + (9 + d.length) ≤ len → close_refusal d len (inside from 0 at) ≡ 0
-    unfolding close_refusal no_room first_of when_of
-    close_none from at s room =
-        let w : at ≤ len = omega arith in
-        let m : 9 + d.length ≤ len - at = omega arith in
-        rw (none_inside from 0 at w s (omega arith), le-ltb (len - at) (9 + d.length) m)
+    close_none : (from at : ℕ) → from + 13 ≤ at → at + (9 + d.length) ≤ len → close_refusal d len (inside from 0 at) ≡ Ok tt
+    unfolding close_refusal shared_refusal buffer_refusal out_of_range no_room
+    close_none from at s room = grind arith
 
   -- ---- runs
 
@@ -96,20 +78,20 @@ module _ (d : Dialect) where
   goes_none r to e = record { accepted = tt; closed = refl; state = e }
 
   -- an accepted call in front
-  noted : (c : Call) (l : Ledger) (o : Outcome) → is_wrote o.reply.answer ≡ true → settled d c l o ≡ record { bytes = o.bytes; state = o.reply.state; ledger = note d c l }
+  noted : (c : Call) (l : Ledger) (o : Outcome) → IsOk o.reply.answer → settled d c l o ≡ record { bytes = o.bytes; state = o.reply.state; ledger = note d c l }
   unfolding settled
   noted c l o w = rw w
 
-  in_front : (c : Call) (cs : List Call) (r : Standing) (bs : List Closed) (to : ℕ) → is_wrote (result d c r.bytes r.state).reply.answer ≡ true → Goes cs (after d c r) bs to → Goes (c ∷ cs) r bs to
+  in_front : (c : Call) (cs : List Call) (r : Standing) (bs : List Closed) (to : ℕ) → IsOk (result d c r.bytes r.state).reply.answer → Goes cs (after d c r) bs to → Goes (c ∷ cs) r bs to
   unfolding AllWrote answers run
   in_front c cs r bs to w k = record { accepted = (w, k.accepted); closed = k.closed; state = k.state }
 
-  goes_on : (c : Call) (cs : List Call) (r : Standing) (n : ℕ) (o : Outcome) (bs : List Closed) (to : ℕ) → result d c r.bytes r.state ≡ settle n r.bytes r.state o → n ≡ 0 → is_wrote o.reply.answer ≡ true
+  goes_on : (c : Call) (cs : List Call) (r : Standing) (n : Result ⊤ Refusal) (o : Outcome) (bs : List Closed) (to : ℕ) → result d c r.bytes r.state ≡ settle n r.bytes r.state o → n ≡ Ok tt → IsOk o.reply.answer
       → Goes cs (record { bytes = o.bytes; state = o.reply.state; ledger = note d c r.ledger }) bs to → Goes (c ∷ cs) r bs to
   unfolding after
   goes_on c cs r n o bs to e z w k =
       let s : result d c r.bytes r.state ≡ o = e ∙ settle_done n r.bytes r.state o z in
-      in_front c cs r bs to (ap (λ (x : Outcome). is_wrote x.reply.answer) s ∙ w) (rw (s, noted c r.ledger o w) k)
+      in_front c cs r bs to (ap (λ (x : Outcome). is_ok x.reply.answer) s ∙ w) (rw (s, noted c r.ledger o w) k)
 
   module _ (g : good d ≡ true) where
     -- the puts of a batch, with k for what follows them

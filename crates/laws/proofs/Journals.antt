@@ -1,8 +1,7 @@
 -- Journals of closed batches: their bytes read back, and cut anywhere and followed by zeros they end as the cut law says.
-use Rattle.std.specs.Prelude.{ℕ, suc, ◌+◌, ◌^◌, ◌≤◌, ◌<◌, ◌≡◌, Bool, take, eqb, leb}
+use Rattle.std.specs.Prelude.{ℕ, suc, ◌+◌, ◌^◌, ◌≤◌, ◌<◌, ◌≡◌, Bool, ◌||◌, take, eqb, leb}
 use Rattle.std.proofs.Math.Path.{refl, ap}
 use Rattle.std.proofs.Common.{◌∙◌, arith, eq-eqb}
-use Rattle.std.proofs.Math.Bool.{true, false}
 use mathlib.Core.List.{List, [], ◌∷◌, ◌++◌, append-nil}
 use Rattle.std.proofs.Math.ListN.{length}
 use Rattle.std.proofs.Math.Seq.{append_snoc}
@@ -11,15 +10,17 @@ use Rattle.plan.specs.Reading.{Reading, clean, broken, next, read, read_nil, rea
 use Rattle.dialect.specs.declared.Dialect.{Dialect}
 use Rattle.dialect.specs.Good.{Good}
 use Rattle.entry.specs.Entry.{Put, start, body, end, Stop, entry, put, put_all, hashed, put_batch, Fits, AllFit}
+use Rattle.reader.specs.declared.Outcome.TheVariants as ends
 use Rattle.reader.specs.Batch.{Batch, batch, judge, open_batch, batch_plan}
 use Rattle.reader.specs.Found.{outcome_of}
 use Rattle.reader.proofs.Bridge.{hungry}
 use Rattle.plan.specs.Cut.{zeros, Dead, Cuts}
-use Rattle.plan.specs.Journal.{Journal, empty, all, bound, expected, either, Is, journal_clean}
+use Rattle.plan.specs.Journal.{Journal, empty, all, bound, expected, journal_clean}
 use Rattle.plan.proofs.Journal.{cut}
 use Rattle.laws.specs.Yields.{Place}
 use Rattle.laws.specs.Written.{Torn, DeadAfter, takes_put, cuts_put, dead_entry}
 use Rattle.laws.specs.Journals.{Closed, accepted, before, ends_at, bytes_of, journal, places, FitsAll, EachFits}
+use Rattle.laws.proofs.Yields.{Reads}
 
 upto_before : (c : ℕ) (R : Reading Stop Batch) → upto c R ≡ before c (all R)
 unfolding upto before all
@@ -70,7 +71,7 @@ module _ (d : Dialect) (h : List ℕ → ℕ) (range : (l : List ℕ) → h l < 
       (λ c' q'. dead_entry d (judge d h c' q' c' []))
       (cuts_body (length ps) q [] ps (h (hashed d (length ps) q ps)) f.fit (range (hashed d (length ps) q ps)))
 
-  is_journal : (bs : List Closed) → EachFits d bs → Journal outcome_of (batch_plan d h) (hungry d h) (journal d h bs)
+  is_journal : (bs : List Closed) → EachFits d bs → Journal ends.Clean ends.Torn outcome_of (batch_plan d h) (hungry d h) (journal d h bs)
   unfolding journal EachFits
   is_journal [] f = empty
   is_journal (b ∷ bs) f = Journal.batch (bytes_of d h b) (takes_batch b f.0) (cuts_batch b f.0) (is_journal bs f.1)
@@ -85,28 +86,24 @@ module _ (d : Dialect) (h : List ℕ → ℕ) (range : (l : List ℕ) → h l < 
       (ap (λ (l : List Place). (accepted b, at, at + length w) ∷ l) (reads_back (at + length w) bs f.1))
 
   -- the boundaries of a journal: where it begins, and where a batch ends
-  bound_places : (c at : ℕ) (bs : List Closed) → EachFits d bs → bound c (read (batch_plan d h) at (journal d h bs)) ≡ either (eqb c at) (ends_at c (places d h at bs))
+  bound_places : (c at : ℕ) (bs : List Closed) → EachFits d bs → bound c (read (batch_plan d h) at (journal d h bs)) ≡ (eqb c at || ends_at c (places d h at bs))
   unfolding journal places bound ends_at EachFits
-  bound_places c at [] f = rw (read_nil (batch_plan d h) (hungry d h) at) (or_false (eqb c at))
-    where
-      or_false : (b : Bool) → b ≡ either b false
-      or_false true = refl
-      or_false false = refl
+  bound_places c at [] f = rw (read_nil (batch_plan d h) (hungry d h) at) (grind arith)
   bound_places c at (b ∷ bs) f =
       let w = bytes_of d h b in
       rw (read_next (batch_plan d h) (hungry d h) at w (journal d h bs) (accepted b) (takes_batch b f.0))
-      (ap (either (eqb c at)) (bound_places c (at + length w) bs f.1))
+      (ap (λ (b : Bool). eqb c at || b) (bound_places c (at + length w) bs f.1))
 
   -- ROUND TRIP: a journal reads as its batches, and clean
-  pub round_trip : (bs : List Closed) → EachFits d bs → Is outcome_of (batch_plan d h) (hungry d h) (read (batch_plan d h) 0 (journal d h bs)) (places d h 0 bs) 0
-  round_trip bs f = record { shows = reads_back 0 bs f; ends_in = journal_clean outcome_of (batch_plan d h) (hungry d h) 0 (is_journal bs f) }
+  pub round_trip : (bs : List Closed) → EachFits d bs → Reads d h (journal d h bs) (places d h 0 bs) ends.Clean
+  round_trip bs f = record { shows = reads_back 0 bs f; ends_in = journal_clean ends.Clean ends.Torn outcome_of (batch_plan d h) (hungry d h) 0 (is_journal bs f) }
 
   -- CUT: the batches lying wholly before the cut; clean at a boundary with no zeros, else torn
   pub cut_law : (bs : List Closed) → EachFits d bs → (c z : ℕ) → c ≤ length (journal d h bs)
-      → Is outcome_of (batch_plan d h) (hungry d h) (read (batch_plan d h) 0 (take c (journal d h bs) ++ zeros z)) (before c (places d h 0 bs)) (expected (either (eqb c 0) (ends_at c (places d h 0 bs))) z)
+      → Reads d h (take c (journal d h bs) ++ zeros z) (before c (places d h 0 bs)) (expected ends.Clean ends.Torn (eqb c 0 || ends_at c (places d h 0 bs)) z)
   cut_law bs f c z l =
-      let x = cut outcome_of (batch_plan d h) (hungry d h) dead (is_journal bs f) c z l in
+      let x = cut ends.Clean ends.Torn outcome_of (batch_plan d h) (hungry d h) dead (is_journal bs f) c z l in
       record {
         shows = x.shows ∙ upto_before c (read (batch_plan d h) 0 (journal d h bs)) ∙ ap (before c) (reads_back 0 bs f);
-        ends_in = x.ends_in ∙ ap (λ (b : Bool). expected b z) (bound_places c 0 bs f);
+        ends_in = x.ends_in ∙ ap (λ (b : Bool). expected ends.Clean ends.Torn b z) (bound_places c 0 bs f);
       }

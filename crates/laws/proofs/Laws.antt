@@ -4,26 +4,24 @@
 -- last one returned, until an end, the steps accept exactly these batches, each where it lies and with its entries where they stand, and end
 -- with the outcome o. `run d calls (fresh buffer)` (specs/Runs) is our writer: any calls with any arguments, refused ones among them, from
 -- position 0 with no batch open, each given the state that the call before it returned. Both are folds of what the calls' contracts cite.
--- `batches_of`, `outcome_in` and `boundary` are in specs/Laws.
-use Rattle.std.specs.Prelude.{ℕ, ◌+◌, ◌≤◌, ◌≡◌, refl, ◌≢◌, Bool, true, false, cond, List, [], ◌++◌, map, length, take, eqb}
+-- `batches_of`, `outcome_in` and `boundary` are in specs/Laws. Outcomes and refusals go by their names; their numbers are in brackets, and in
+-- `number_of` (the reader's specs/Outcome, and specs/Refusal of refusal).
+use Rattle.std.specs.Prelude.{ℕ, ◌+◌, ◌≤◌, ◌≡◌, refl, ◌≢◌, true, false, cond, List, [], ◌++◌, map, length, take, Err}
 use Rattle.std.proofs.Common.{sym, ◌∙◌, append-nil, arith, length-append, length-take-le}
 use Rattle.number.specs.Limit.{limit}
 use Rattle.xxh3.specs.Xxh3.{default_secret, xxh3_64}
 use Rattle.xxh3.specs.Range.{hash_lt}
-use Rattle.plan.specs.Reading.{Reading, read}
 use Rattle.plan.specs.Cut.{zeros, length_zeros}
-use Rattle.plan.specs.Journal.{all, outcome, expected, either}
+use Rattle.plan.specs.Journal.{expected}
 use Rattle.dialect.specs.declared.Dialect.{Dialect}
 use Rattle.dialect.specs.Dialect.{good}
 use Rattle.dialect.specs.Good.{is_good}
-use Rattle.entry.specs.Entry.{Stop}
-use Rattle.encode.specs.Encoding.{number_of}
-use Rattle.reader.specs.Batch.{Batch, batch_plan}
-use Rattle.reader.specs.Found.{outcome_of}
+use Rattle.refusal.specs.declared.Refusal.TheVariants.{State, NoRoom}
+use Rattle.reader.specs.declared.Outcome.TheVariants.{Clean, Torn}
 use Rattle.writer.specs.Writing.{out_of_range, close_refusal}
 use Rattle.laws.specs.Yields.{Place, Yields}
 use Rattle.laws.specs.Append.{moved}
-use Rattle.laws.specs.Journals.{before, ends_at, journal, places, EachFits}
+use Rattle.laws.specs.Journals.{before, journal, places, EachFits}
 use Rattle.laws.specs.Laws.{batches_of, outcome_in, boundary}
 use Rattle.laws.specs.Runs.{Call, AllWords, Standing, result, run, answers, fresh}
 use Rattle.laws.specs.Kept.{Kept, shut, going, shut_of, sized_of, begun}
@@ -44,7 +42,7 @@ module _ (d : Dialect) (g : good d ≡ true) where
 
   -- APPEND: reading an image A that ends clean and then any bytes B gives A's batches, B's with every position moved by A's length, and B's
   -- outcome. (The last valid position is part of what Yields says.)
-  pub append : (A B : List ℕ) → length A + length B ≤ limit → outcome_in d A ≡ 0
+  pub append : (A B : List ℕ) → length A + length B ≤ limit → outcome_in d A ≡ Clean
       → Yields d (A ++ B) (batches_of d A ++ moved (length A) (batches_of d B)) (outcome_in d B)
   append A B l clean =
       yields d (A ++ B) g (rw (length-append A B) l) (batches_of d A ++ moved (length A) (batches_of d B)) (outcome_in d B) (appended d xxh3_64 A B clean)
@@ -56,15 +54,15 @@ module _ (d : Dialect) (xs : List ℕ) (calls : List Call) (words : AllWords cal
   abbrev pub now : Standing
   now = run d calls (fresh xs)
 
-  -- every state reached is in range, and no call on it answers 22
+  -- every state reached is in range, and no call on it answers State (22)
   pub state_in_range : out_of_range (length now.bytes) now.state ≡ false
   state_in_range = numbers.in_range d (length xs) (kept d xs calls words)
 
-  pub no_22 : (c : Call) → number_of (result d c now.bytes now.state).reply.answer ≢ 22
+  pub no_22 : (c : Call) → (result d c now.bytes now.state).reply.answer ≢ Err State
   no_22 = numbers.never_22 d (length xs) (kept d xs calls words)
 
-  -- close never lacks room
-  pub no_27_to_close : close_refusal d (length now.bytes) now.state ≢ 27
+  -- close never answers NoRoom (27)
+  pub no_27_to_close : close_refusal d (length now.bytes) now.state ≢ Err NoRoom
   no_27_to_close = numbers.close_27 d (length xs) (kept d xs calls words)
 
   -- the buffer stays as long as it was
@@ -101,21 +99,21 @@ module _ (d : Dialect) (xs : List ℕ) (calls : List Call) (words : AllWords cal
     long = length-take-le now.state.position now.bytes within
 
     module _ (g : good d ≡ true) where
-      -- ROUND TRIP: what our writer wrote reads back as what was put, entry by entry, at the places where it stands, and clean (0).
-      pub round_trip : length xs ≤ limit → Yields d written batches 0
+      -- ROUND TRIP: what our writer wrote reads back as what was put, entry by entry, at the places where it stands, and Clean (0).
+      pub round_trip : length xs ≤ limit → Yields d written batches Clean
       round_trip l =
-          yields d written g (rw long (omega (arith, within, same_size))) batches 0
+          yields d written g (rw long (omega (arith, within, same_size))) batches Clean
           (rw journal_is (journals.round_trip d xxh3_64 (hash_lt default_secret) (is_good d g) now.ledger.closed each_fits))
 
       cut_size : (c z : ℕ) → c ≤ now.state.position → length (take c written ++ zeros z) ≡ c + z
       cut_size c z h = length-append (take c written) (zeros z) ∙ rw (length-take-le c written (rw long h), length_zeros z)
 
       -- CUT: a journal of closed batches from our writer, cut at any byte c and followed by any number z of zeros, yields exactly the batches
-      -- lying wholly before the cut; clean (0) at a boundary with no zeros, torn (1) otherwise.
+      -- lying wholly before the cut; Clean (0) at a boundary with no zeros, Torn (1) otherwise.
       pub cut : (c z : ℕ) → c ≤ now.state.position → c + z ≤ limit
-          → Yields d (take c written ++ zeros z) (before c batches) (expected (boundary c batches) z)
+          → Yields d (take c written ++ zeros z) (before c batches) (expected Clean Torn (boundary c batches) z)
       cut c z h l =
-          yields d (take c written ++ zeros z) g (rw (cut_size c z h) l) (before c batches) (expected (boundary c batches) z)
+          yields d (take c written ++ zeros z) g (rw (cut_size c z h) l) (before c batches) (expected Clean Torn (boundary c batches) z)
           (rw journal_is (journals.cut_law d xxh3_64 (hash_lt default_secret) (is_good d g) now.ledger.closed each_fits c z (rw (← journal_is, long) h)))
 
 -- THE CONVERSE: with room, batches of 1 to 4,294,967,295 entries and keys of 1 to 65,535 bytes, the calls made from the batches (open, the

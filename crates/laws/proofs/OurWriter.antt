@@ -16,7 +16,7 @@ use Rattle.entry.specs.Entry.{body, put, Fits}
 use Rattle.entry.specs.Sizes.{item_size, one_size, code_is_type}
 use Rattle.encode.specs.Encoding.{key_too_long}
 use Rattle.writer.specs.Writing.{open_refusal, put_refusal, close_refusal, write_refusal, wrong_put, open_call, put_call, close_call, write_call}
-use Rattle.writer.specs.Laws.{open_zero, put_zero, close_zero, write_zero}
+use Rattle.writer.specs.Laws.{open_ok, put_ok, close_ok, write_ok}
 use Rattle.laws.specs.Journals.{journal, EachFits}
 use Rattle.laws.specs.Runs.{Given, item, clear, Call, opens, puts, closes, writes, keyspace_of, coded, Words, AllWords, Standing, result, note, after, run, fresh}
 use Rattle.laws.specs.Kept.{Kept, shut, shut_of, going_of, open_keeps, put_keeps, close_keeps, write_keeps, keeps_settled}
@@ -24,7 +24,7 @@ use Rattle.laws.specs.Kept.{Kept, shut, shut_of, going_of, open_keeps, put_keeps
 module _ (d : Dialect) where
   -- an entry whose key is short enough and that has room fits its fields
   key_fits : (g : Given) → keyspace_of g < 256 ^ 8 → key_too_long (body (coded d g)) ≡ false → length (put d (body (coded d g)) []) ≤ limit → Fits d (body (coded d g))
-  unfolding keyspace_of key_too_long coded Fits
+  unfolding keyspace_of coded Fits
   key_fits (item type keyspace key value) f k l =
       let y = ltb-false 65_535 (length key) k in
       let n = item_size d (code_of d type) keyspace key value in
@@ -33,7 +33,7 @@ module _ (d : Dialect) where
 
   -- a key that may be put is short enough
   put_key : (g : Given) → wrong_put (coded d g) ≡ false → key_too_long (body (coded d g)) ≡ false
-  unfolding wrong_put key_too_long coded
+  unfolding coded
   put_key (item type keyspace key value) h = (not_or (eqb (length key) 0) (ltb 65_535 (length key)) h).1
   put_key (clear keyspace) h = refl
 
@@ -48,7 +48,7 @@ module _ (d : Dialect) (size : ℕ) where
       rw e
       (keeps_settled d size (opens count seqno) r (open_refusal d (length r.bytes) r.state count) _ refl k
       (λ z.
-      let o = open_zero d (length r.bytes) r.state count (eqb-false count 0 e) z in
+      let o = open_ok d (length r.bytes) r.state count (eqb-false count 0 e) z in
       rw e (open_keeps d size r (shut_of d size k o.shut) count seqno o.few fits o.room)))
 
   step : (c : Call) → Words c → (r : Standing) → Kept d size r → Kept d size (after d c r)
@@ -59,21 +59,21 @@ module _ (d : Dialect) (size : ℕ) where
       let n = length (put d (body p) []) in
       keeps_settled d size (puts g) r (put_refusal d (length r.bytes) r.state (wrong_put p) n) _ refl k
       (λ z.
-      let o = put_zero d (length r.bytes) r.state (wrong_put p) n z in
+      let o = put_ok d (length r.bytes) r.state (wrong_put p) n z in
       let s = o.ready.short in
       let m = o.room in
       put_keeps d size r (going_of d size k o.opened) p (key_fits d g f (put_key d g o.right) (omega arith)) o.counted m)
   step closes f r k =
       keeps_settled d size closes r (close_refusal d (length r.bytes) r.state) _ refl k
       (λ z.
-      let o = close_zero d (length r.bytes) r.state z in
+      let o = close_ok d (length r.bytes) r.state z in
       close_keeps d size r (going_of d size k o.opened) o.ready.fine o.counted)
   step (writes seqno g) f r k =
       let p = coded d g in
       let n = length (put d (body p) []) in
       keeps_settled d size (writes seqno g) r (write_refusal d (length r.bytes) r.state (key_too_long (body p)) n) _ refl k
       (λ z.
-      let o = write_zero d (length r.bytes) r.state (key_too_long (body p)) n z in
+      let o = write_ok d (length r.bytes) r.state (key_too_long (body p)) n z in
       let s = o.ready.short in
       let m = o.room in
       let y = (is_good d o.ready.fine).size in

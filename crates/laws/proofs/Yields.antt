@@ -16,9 +16,11 @@ use Rattle.plan.specs.Ends.{within}
 use Rattle.plan.specs.Journal.{all, outcome, Is}
 use Rattle.dialect.specs.declared.Dialect.{Dialect}
 use Rattle.dialect.specs.Dialect.{good, trailer}
-use Rattle.refusal.specs.Refusal.{when_of, first_of, buffer_refusal, image_refusal}
+use Rattle.dialect.specs.Asked.{buffer_refusal, image_refusal}
 use Rattle.entry.specs.Entry.{Put, Entry, body, Stop, entry}
 use Rattle.entry.specs.Decoded.{holds, meaning, or_answers, meant}
+use Rattle.reader.specs.declared.Outcome.{Outcome}
+use Rattle.reader.specs.declared.Outcome.TheVariants.{Clean, Torn}
 use Rattle.reader.specs.declared.Stepped.{Stepped}
 use Rattle.reader.specs.Batch.{Batch, batch, batch_plan}
 use Rattle.reader.specs.Found.{outcome_of}
@@ -27,13 +29,17 @@ use Rattle.reader.specs.Body.{Body, held}
 use Rattle.reader.proofs.Bridge.{hungry, bridge}
 use Rattle.laws.specs.Yields.{Place, shown, answers_for, Entries, Filled, AllFilled, Yields}
 
+-- the plan of batches reads s so: these batches, and this outcome
+abbrev pub Reads : Dialect → (List ℕ → ℕ) → List ℕ → List Place → Outcome → Type 0
+Reads d h s batches o = Is Clean Torn outcome_of (batch_plan d h) (hungry d h) (read (batch_plan d h) 0 s) batches o
+
 module _ (d : Dialect) where
   told_next : (a : Batch) (i j : ℕ) (r : Reading Stop Batch) → told d (next a i j r) ≡ shown d a i j ∷ told d r
   unfolding told
   told_next (batch c q ps) i j r = refl
 
   told_answers : (at : ℕ) {x : List ℕ} → Parsed (batch_plan d xxh3_64) (hungry d xxh3_64) x
-      → told d (read (batch_plan d xxh3_64) at x) ≡ answers_for d at (all (read (batch_plan d xxh3_64) at x)) (outcome outcome_of (read (batch_plan d xxh3_64) at x))
+      → told d (read (batch_plan d xxh3_64) at x) ≡ answers_for d at (all (read (batch_plan d xxh3_64) at x)) (outcome Clean outcome_of (read (batch_plan d xxh3_64) at x))
   unfolding told answers_for all outcome
   told_answers at none = rw (read_nil (batch_plan d xxh3_64) (hungry d xxh3_64) at)
   told_answers at (ends {b} {s} {e} {p} q) = rw (read_stop (batch_plan d xxh3_64) (hungry d xxh3_64) at b s e p q)
@@ -45,7 +51,7 @@ module _ (d : Dialect) where
   module _ (s : List ℕ) (g : good d ≡ true) (l : length s ≤ limit) where
     -- an entry that the plan reads is what `decode` means
     meant_of : (at : ℕ) (e : Entry) (j : ℕ) → at ≤ length s → run_at (entry d) s at ≡ ok e j → meant d s at ≡ holds e j
-    unfolding meant or_answers meaning image_refusal buffer_refusal when_of first_of
+    unfolding meant or_answers meaning image_refusal buffer_refusal
     meant_of at e j k h = rw (g, le-ltb limit (length s) l, le-ltb (length s) at k, h)
 
     entries_of : (at : ℕ) → at ≤ length s → (ps : List Put) (stop : ℕ) → Body d s at ps stop → Entries d s at ps stop
@@ -71,10 +77,10 @@ module _ (d : Dialect) where
         rw (read_next t (hungry d xxh3_64) at u r a tk) (filled_of a at (at + length u) k h, all_filled (at + length u) (omega arith) v f)
 
     -- THE BRIDGE
-    pub yields : (batches : List Place) (o : ℕ) → Is outcome_of (batch_plan d xxh3_64) (hungry d xxh3_64) (read (batch_plan d xxh3_64) 0 s) batches o → Yields d s batches o
+    pub yields : (batches : List Place) (o : Outcome) → Reads d xxh3_64 s batches o → Yields d s batches o
     yields batches o w =
         record {
           answers = bridge d xxh3_64 s g l ∙ told_answers 0 (parsed (batch_plan d xxh3_64) (hungry d xxh3_64) s)
-              ∙ ap (λ (x : List Place). answers_for d 0 x (outcome outcome_of (read (batch_plan d xxh3_64) 0 s))) w.shows ∙ ap (answers_for d 0 batches) w.ends_in;
+              ∙ ap (λ (x : List Place). answers_for d 0 x (outcome Clean outcome_of (read (batch_plan d xxh3_64) 0 s))) w.shows ∙ ap (answers_for d 0 batches) w.ends_in;
           entries = rw w.shows at (all_filled 0 (omega arith) (parsed (batch_plan d xxh3_64) (hungry d xxh3_64) s) refl);
         }

@@ -1,14 +1,13 @@
 -- Batches to be written, and the calls that write them.
 use Prim.Native.Nat.{ℕ, suc, ◌≤◌}
-use Rattle.std.specs.Prelude.{◌≡◌, true}
+use Rattle.std.specs.Prelude.{Result, IsOk}
 use mathlib.Core.List.{List, [], ◌∷◌, ◌++◌, map}
 use Rattle.std.proofs.Math.ListN.{length}
 use Rattle.number.specs.Limit.{limit}
 use Rattle.dialect.specs.declared.Dialect.{Dialect}
-use Rattle.entry.specs.Entry.{put}
-use Rattle.encode.specs.declared.Answer.{Answer}
+use Rattle.refusal.specs.declared.Refusal.{Refusal}
 use Rattle.laws.specs.Journals.{Closed}
-use Rattle.laws.specs.Runs.{Given, item, clear, Call, opens, puts, closes, is_wrote, coded, answers}
+use Rattle.laws.specs.Runs.{Given, item, clear, Call, opens, puts, closes, coded}
 
 -- a batch to be written: its seqno and what is put
 pub record Wanted : Type 0 where
@@ -39,9 +38,9 @@ EachWritable [] = Unit {0}
 EachWritable (b ∷ bs) = Writable b × EachWritable bs
 
 -- none of the answers is a refusal
-unfoldable pub AllWrote : List Answer → Type 0
+unfoldable pub AllWrote : List (Result ℕ Refusal) → Type 0
 AllWrote [] = Unit {0}
-AllWrote (a ∷ rest) = (is_wrote a ≡ true) × AllWrote rest
+AllWrote (a ∷ rest) = IsOk a × AllWrote rest
 
 module _ (d : Dialect) where
   -- the batch as the ledger has it

@@ -1,5 +1,5 @@
 -- Journals of closed batches: their bytes, and where their batches lie.
-use Rattle.std.specs.Prelude.{ℕ, ◌+◌, ◌^◌, ◌<◌, ◌≡◌, Bool, eqb, leb}
+use Rattle.std.specs.Prelude.{ℕ, ◌+◌, ◌^◌, ◌<◌, ◌≡◌, Bool, ◌||◌, eqb, leb}
 use Rattle.std.proofs.Math.Path.{sym, ap}
 use Rattle.std.proofs.Common.{◌∙◌}
 use Rattle.std.proofs.Math.Bool.{false}
@@ -7,10 +7,8 @@ use mathlib.Core.List.{List, [], ◌∷◌, ◌++◌, append_assoc, append-nil}
 use Rattle.std.proofs.Math.ListN.{length}
 use Rattle.plan.specs.Reading.{keep}
 use Rattle.dialect.specs.declared.Dialect.{Dialect}
-use Rattle.entry.specs.Entry.{Put, end, put, put_batch, AllFit}
+use Rattle.entry.specs.Entry.{Put, put_batch, AllFit}
 use Rattle.reader.specs.Batch.{Batch, batch}
-use Rattle.plan.specs.Journal.{either}
-use Rattle.plan.proofs.Journal.{cut}
 use Rattle.laws.specs.Yields.{Place}
 
 -- a closed batch: its seqno and its entries, in the order in which they were put
@@ -30,7 +28,7 @@ before c (p ∷ ps) = keep (leb p.2 c) p (before c ps)
 -- one of them ends at c
 unfoldable pub ends_at : ℕ → List Place → Bool
 ends_at c [] = false
-ends_at c (p ∷ ps) = either (eqb c p.2) (ends_at c ps)
+ends_at c (p ∷ ps) = eqb c p.2 || ends_at c ps
 
 module _ (d : Dialect) (h : List ℕ → ℕ) where
   abbrev pub bytes_of : Closed → List ℕ

@@ -1,25 +1,24 @@
 -- What every call of our writer keeps.
-use Rattle.std.specs.Prelude.{ℕ, ◌+◌, ◌-◌, ◌^◌, ◌≤◌, ◌<◌, ◌≡◌, Bool, take, drop}
+use Rattle.std.specs.Prelude.{ℕ, ◌+◌, ◌-◌, ◌^◌, ◌≤◌, ◌<◌, ◌≡◌, take, drop, Result, Ok, Err, IsOk, ⊤}
 use Rattle.std.proofs.Math.Path.{refl, sym, ap}
-use Rattle.std.proofs.Common.{◌∙◌, true≢false, arith, zero-add, length-append, take-append-drop, length-take-le, eqb-true}
+use Rattle.std.proofs.Common.{◌∙◌, true≢false, arith, zero-add, length-append, take-append-drop, length-take-le}
 use Rattle.std.proofs.Math.Bool.{true, false}
 use mathlib.Core.List.{List, [], ◌∷◌, ◌++◌, append_assoc, append-nil}
 use Rattle.std.proofs.Math.ListN.{length}
-use Rattle.std.proofs.Math.Dec.{eqb}
-use Rattle.std.proofs.lemmas.Bool.{eqb-false}
 use Rattle.number.specs.Limit.{limit}
 use Rattle.number.specs.Part.{over, length_over, take_over, between}
 use Rattle.xxh3.specs.Xxh3.{xxh3_64}
 use Rattle.dialect.specs.declared.Dialect.{Dialect}
 use Rattle.dialect.specs.Dialect.{good}
+use Rattle.refusal.specs.declared.Refusal.{Refusal}
 use Rattle.entry.specs.Entry.{Put, start, body, end, put, put_all, put_batch, hashed, Fits, AllFit}
 use Rattle.entry.specs.Sizes.{put_all_snoc, fit_snoc, batch_parts, start_size}
 use Rattle.encode.specs.Laws.{end_length}
 use Rattle.writer.specs.declared.WriterState.{WriterState}
 use Rattle.writer.specs.Writing.{Outcome, settle, inside, outside, hashed_from, standing}
-use Rattle.writer.specs.Laws.{settle_done, settle_not, hashed_stands}
+use Rattle.writer.specs.Laws.{hashed_stands}
 use Rattle.laws.specs.Journals.{Closed, journal, journal_snoc, EachFits, each_snoc}
-use Rattle.laws.specs.Runs.{Call, Ledger, ledger_of, Standing, is_wrote, add, file, note, settled}
+use Rattle.laws.specs.Runs.{Call, Ledger, ledger_of, Standing, add, file, note, settled}
 
 -- under the dialect d, on a buffer of `size` bytes
 module _ (d : Dialect) (size : ℕ) where
@@ -204,11 +203,8 @@ module _ (d : Dialect) (size : ℕ) where
       })
 
   -- a call that is refused leaves the run where it stood; one that is not, where its outcome says
-  pub keeps_settled : (c : Call) (r : Standing) (n : ℕ) (o : Outcome) → is_wrote o.reply.answer ≡ true → Kept r
-      → (n ≡ 0 → Kept (record { bytes = o.bytes; state = o.reply.state; ledger = note d c r.ledger })) → Kept (settled d c r.ledger (settle n r.bytes r.state o))
+  pub keeps_settled : (c : Call) (r : Standing) (n : Result ⊤ Refusal) (o : Outcome) → IsOk o.reply.answer → Kept r
+      → (n ≡ Ok tt → Kept (record { bytes = o.bytes; state = o.reply.state; ledger = note d c r.ledger })) → Kept (settled d c r.ledger (settle n r.bytes r.state o))
   unfolding settled
-  keeps_settled c r n o z k f = go (eqb n 0) refl
-    where
-      go : (t : Bool) → eqb n 0 ≡ t → Kept (settled d c r.ledger (settle n r.bytes r.state o))
-      go true e = rw (settle_done n r.bytes r.state o (eqb-true n 0 e), z) (f (eqb-true n 0 e))
-      go false e = rw (settle_not n r.bytes r.state o (eqb-false n 0 e)) k
+  keeps_settled c r (Ok tt) o z k f = rw z (f refl)
+  keeps_settled c r (Err why) o z k f = k

@@ -1,13 +1,12 @@
 -- OUR WRITER: a run of calls on one buffer under one dialect, from position 0 with no batch open, each call given the state that the
 -- call before it returned, refused calls among them. It is a fold of the definitions that the calls' contracts cite.
-use Rattle.std.specs.Prelude.{ℕ, ◌^◌, ◌<◌, Bool, true, false, cond, List, [], ◌∷◌, ◌++◌, eqb}
+use Rattle.std.specs.Prelude.{ℕ, ◌^◌, ◌<◌, cond, List, [], ◌∷◌, ◌++◌, eqb, Result, is_ok}
 use Rattle.dialect.specs.declared.Dialect.{Dialect}
 use Rattle.dialect.specs.declared.ValueType.{ValueType}
 use Rattle.dialect.specs.Dialect.{code_of}
 use Rattle.entry.specs.Entry as entry
 use Rattle.entry.specs.Entry.{Put}
-use Rattle.encode.specs.declared.Answer.{Answer}
-use Rattle.encode.specs.declared.Answer.TheVariants.{Wrote, Refused}
+use Rattle.refusal.specs.declared.Refusal.{Refusal}
 use Rattle.writer.specs.declared.WriterState.{WriterState}
 use Rattle.writer.specs.Writing.{Outcome, outside, open_call, put_call, close_call, write_call}
 use Rattle.laws.specs.Journals.{Closed}
@@ -53,11 +52,6 @@ pub record Standing : Type 0 where
   pub state : WriterState
   pub ledger : Ledger
 
--- an answer that is no refusal
-abbrev pub is_wrote : Answer → Bool
-is_wrote (Wrote n) = true
-is_wrote (Refused k) = false
-
 abbrev pub ledger_of : List Closed → ℕ → List Put → Ledger
 ledger_of closed seqno entries = record { closed = closed; current = record { seqno = seqno; entries = entries } }
 
@@ -87,9 +81,9 @@ module _ (d : Dialect) where
   note closes l = file l.current l
   note (writes seqno g) l = file (record { seqno = seqno; entries = coded g ∷ [] }) l
 
-  -- one call, and a run of calls
+  -- one call, and a run of calls; a refused call adds nothing to the ledger
   unfoldable pub settled : Call → Ledger → Outcome → Standing
-  settled c l o = record { bytes = o.bytes; state = o.reply.state; ledger = cond (is_wrote o.reply.answer) (note c l) l }
+  settled c l o = record { bytes = o.bytes; state = o.reply.state; ledger = cond (is_ok o.reply.answer) (note c l) l }
 
   unfoldable pub after : Call → Standing → Standing
   after c r = settled c r.ledger (result c r.bytes r.state)
@@ -99,7 +93,7 @@ module _ (d : Dialect) where
   run (c ∷ cs) r = run cs (after c r)
 
   -- what the calls of a run answer
-  unfoldable pub answers : List Call → Standing → List Answer
+  unfoldable pub answers : List Call → Standing → List (Result ℕ Refusal)
   answers [] r = []
   answers (c ∷ cs) r = (result c r.bytes r.state).reply.answer ∷ answers cs (after c r)
 

@@ -1,16 +1,17 @@
 -- What the reader's calls yield over an image: the words in which the laws speak.
-use Rattle.std.specs.Prelude.{ℕ, ◌+◌, ◌-◌, ◌≡◌}
+use Rattle.std.specs.Prelude.{ℕ, ◌+◌, ◌-◌, ◌≡◌, Ok, Err}
 use mathlib.Core.List.{List, [], ◌∷◌}
 use Rattle.std.proofs.Math.ListN.{length}
 use Rattle.xxh3.specs.Xxh3.{xxh3_64}
-use Rattle.plan.specs.Reading.{ends}
 use Rattle.dialect.specs.declared.Dialect.{Dialect}
 use Rattle.dialect.specs.Dialect.{trailer}
-use Rattle.entry.specs.Entry.{Put, body, entry}
+use Rattle.entry.specs.Entry.{Put, body}
 use Rattle.entry.specs.Decoded.{holds, meant}
 use Rattle.reader.specs.declared.Stepped.{Stepped}
-use Rattle.reader.specs.declared.Answer.TheVariants.{Accepted, Ended}
+use Rattle.reader.specs.declared.Outcome.{Outcome}
+use Rattle.reader.specs.declared.NoBatch.TheVariants.{Ended}
 use Rattle.reader.specs.Batch.{Batch, batch}
+use Rattle.reader.specs.Found.{accepted}
 use Rattle.reader.specs.Reading.{reader, with_state, walk}
 
 -- a batch, and where it begins and ends
@@ -24,11 +25,11 @@ steps d image = walk d xxh3_64 image (length image + 1) (reader 0)
 
 -- what a step answers of an accepted batch that lies from i to j, with the state that it returns
 abbrev pub shown : Dialect → Batch → ℕ → ℕ → Stepped
-shown d (batch count seqno ps) i j = with_state (reader i) (Accepted seqno count (i + 13) (j - (9 + length (trailer d))) j)
+shown d (batch count seqno ps) i j = with_state (reader i) (Ok (accepted seqno count (i + 13) (j - (9 + length (trailer d))) j))
 
 -- the answers for these batches, in order, and then the end; `at` is the last valid position before them
-unfoldable pub answers_for : Dialect → ℕ → List Place → ℕ → List Stepped
-answers_for d at [] o = with_state (reader at) (Ended o) ∷ []
+unfoldable pub answers_for : Dialect → ℕ → List Place → Outcome → List Stepped
+answers_for d at [] o = with_state (reader at) (Err (Ended o)) ∷ []
 answers_for d at (p ∷ ps) o = shown d p.0 p.1 p.2 ∷ answers_for d p.2 ps o
 
 -- the entries ps stand one behind another from `at` up to `stop`: what `decode` answers at each place means that entry
@@ -45,6 +46,6 @@ AllFilled d s [] = Unit {0}
 AllFilled d s (p ∷ ps) = Filled d s p.0 p.1 p.2 × AllFilled d s ps
 
 -- READING THE IMAGE YIELDS EXACTLY THESE BATCHES, each where it lies and with its entries where they stand, AND ENDS WITH THIS OUTCOME.
-pub record Yields (d : Dialect) (image : List ℕ) (batches : List Place) (o : ℕ) : Type 0 where
+pub record Yields (d : Dialect) (image : List ℕ) (batches : List Place) (o : Outcome) : Type 0 where
   pub answers : steps d image ≡ answers_for d 0 batches o
   pub entries : AllFilled d image batches

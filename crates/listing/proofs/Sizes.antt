@@ -1,27 +1,29 @@
 -- A listing is no longer than four times its image and 128 bytes. Assumes nothing.
 use Prim.Native.Nat.{ℕ, ◌+◌, ◌*◌, ◌≤◌}
 use mathlib.Core.Path.{◌≡◌, sym, ap, ◌∙◌}
-use mathlib.Core.Bool.{Bool, true, false, cond}
+use Rattle.std.specs.Prelude.{Option, Some, None, unwrap_or}
 use mathlib.Core.List.{List, [], ◌∷◌, ◌++◌, append-nil}
 use native.Mathlib.Omega.{arith}
 use native.Mathlib.Nat.{zero-add}
 use lib.ListN.{length, length-append}
-use lib.Dec.{eqb}
 use Rattle.xxh3.specs.Xxh3.{default_secret, hash}
 use Rattle.plan.specs.Plan.{Plan, ok, later, run, run_at, Takes}
 use Rattle.plan.specs.Reading.{clean, broken, read, Parsed, none, ends, more, read_nil, read_stop, read_next}
 use Rattle.plan.proofs.Reading.{parsed}
 use Rattle.plan.specs.Place.{at_run}
 use Rattle.dialect.specs.declared.Dialect.{Dialect}
+use Rattle.dialect.specs.declared.ValueType.{ValueType}
+use Rattle.dialect.specs.declared.ValueType.TheVariants.{Value, Tombstone, WeakTombstone, Indirection}
+use Rattle.dialect.specs.Dialect.{type_of_code}
 use Rattle.entry.specs.Entry.{Put, item, clear, body, Stop, entry}
 use Rattle.entry.proofs.Exact.{ItemAt, exact_of}
 use Rattle.reader.specs.declared.Reader.{Reader}
 use Rattle.reader.specs.Batch.{Batch, batch, batch_plan}
 use Rattle.reader.specs.Reading.{keep, ending}
 use Rattle.reader.proofs.Bridge.{hungry}
-use Rattle.text.specs.Text.{ascii, decimal, or_dash}
+use Rattle.text.specs.Text.{decimal, or_dash}
 use Rattle.text.specs.Sizes.{length_decimal, length_dash}
-use Rattle.listing.specs.Listing.{journal_line, batch_line, end_line, state_line, type_name, entry_line, entry_lines, reading_lines, listing, room_for}
+use Rattle.listing.specs.Listing.{journal_line, batch_line, end_line, state_line, name_of, type_name, entry_line, entry_lines, reading_lines, listing, room_for}
 use Rattle.reader.specs.Body.{Body, held}
 
 -- ---- lines, by their numbers and bytes
@@ -34,7 +36,7 @@ pub batch_size : (position seqno count : ℕ) → length (batch_line position se
 unfolding batch_line
 batch_size position seqno count = simp length-append (omega arith)
 
-pub end_size : (n : ℕ) (r : Reader) → length (state_line n r) ≡ 18 + length (decimal r.outcome) + length (decimal r.position) + length (decimal (keep n r))
+pub end_size : (n : ℕ) (r : Reader) → length (state_line n r) ≡ 18 + length (decimal (unwrap_or r.outcome 0)) + length (decimal r.position) + length (decimal (keep n r))
 unfolding state_line end_line
 end_size n r = simp length-append (omega arith)
 
@@ -49,14 +51,14 @@ module _ (d : Dialect) where
   item_size code keyspace key value = simp length-append (omega arith)
 
   name_size : (code : ℕ) → length (type_name d code) ≤ 2
-  unfolding type_name
-  name_size code = go (eqb code d.value) (eqb code d.tombstone) (eqb code d.weak)
+  name_size code = go (type_of_code d code)
     where
-      go : (a b c : Bool) → length (cond a (ascii "V") (cond b (ascii "T") (cond c (ascii "W") (ascii "Vb")))) ≤ 2
-      go true b c = omega arith
-      go false true c = omega arith
-      go false false true = omega arith
-      go false false false = omega arith
+      go : (t : Option ValueType) → length (name_of t) ≤ 2
+      go (Some Value) = omega arith
+      go (Some Tombstone) = omega arith
+      go (Some WeakTombstone) = omega arith
+      go (Some Indirection) = omega arith
+      go None = omega arith
 
   -- ---- what they come to
 
@@ -81,7 +83,7 @@ module _ (d : Dialect) where
         rw (length-append (entry_line d p) (entry_lines d ps)) (omega (arith, w.0))
 
   end_bound : (n : ℕ) (r : Reader) → length (state_line n r) ≤ 78
-  end_bound n r = omega (arith, end_size n r, length_decimal r.outcome, length_decimal r.position, length_decimal (keep n r))
+  end_bound n r = omega (arith, end_size n r, length_decimal (unwrap_or r.outcome 0), length_decimal r.position, length_decimal (keep n r))
 
   abbrev t : Plan Stop Batch
   t = batch_plan d (hash default_secret)

@@ -1,18 +1,20 @@
 -- The dump's text, line by line, each ended by a line feed. Document 01, "The dump".
-use Rattle.std.specs.Prelude.{ℕ, zero, suc, ◌+◌, ◌*◌, not, cond, List, [], ◌∷◌, ◌++◌, length, ltb, eqb}
-use Rattle.number.specs.Part.{front}
+use Rattle.std.specs.Prelude.{ℕ, ◌+◌, ◌*◌, not, List, [], ◌∷◌, ◌++◌, length, ltb, Option, Some, None, unwrap_or, Result, ⊤}
 use Rattle.xxh3.specs.Xxh3.{default_secret, hash}
 use Rattle.plan.specs.Reading.{Reading, clean, broken, next, read}
 use Rattle.dialect.specs.declared.Dialect.{Dialect}
-use Rattle.dialect.specs.Dialect.{good}
+use Rattle.dialect.specs.Dialect.{good, type_of_code}
+use Rattle.dialect.specs.declared.ValueType.{ValueType}
+use Rattle.dialect.specs.declared.ValueType.TheVariants.{Value, Tombstone, WeakTombstone, Indirection}
+use Rattle.refusal.specs.declared.Refusal.{Refusal}
+use Rattle.refusal.specs.declared.Refusal.TheVariants as refusal
 use Rattle.refusal.specs.Refusal.{when_of, first_of}
 use Rattle.entry.specs.Entry.{Put, item, clear, Stop}
+use Rattle.encode.specs.Encoding.{Encoded, settled}
 use Rattle.reader.specs.declared.Reader.{Reader}
 use Rattle.reader.specs.Batch.{Batch, batch, batch_plan}
 use Rattle.reader.specs.Reading.{keep, ending}
 use Rattle.text.specs.Text.{ascii, decimal, or_dash}
-use Rattle.listing.specs.declared.Listed.{Listed}
-use Rattle.listing.specs.declared.Listed.TheVariants.{Wrote, Refused}
 
 -- ---- lines
 
@@ -29,13 +31,20 @@ end_line outcome valid kept = ascii "end " ++ decimal outcome ++ ascii " valid "
 
 -- the end of a reading of n bytes, where it stands so
 unfoldable pub state_line : ℕ → Reader → List ℕ
-state_line n r = end_line r.outcome r.position (keep n r)
+state_line n r = end_line (unwrap_or r.outcome 0) r.position (keep n r)
+
+-- of an Item's type; no Item has a code without one
+abbrev pub name_of : Option ValueType → List ℕ
+name_of (Some Value) = ascii "V"
+name_of (Some Tombstone) = ascii "T"
+name_of (Some WeakTombstone) = ascii "W"
+name_of (Some Indirection) = ascii "Vb"
+name_of None = ascii "Vb"
 
 module _ (d : Dialect) where
-  -- of an Item's type, by its code
-  unfoldable pub type_name : ℕ → List ℕ
-  type_name code =
-      cond (eqb code d.value) (ascii "V") (cond (eqb code d.tombstone) (ascii "T") (cond (eqb code d.weak) (ascii "W") (ascii "Vb")))
+  -- by its code
+  abbrev pub type_name : ℕ → List ℕ
+  type_name code = name_of (type_of_code d code)
 
   unfoldable pub entry_line : Put → List ℕ
   entry_line (item code keyspace key value) =
@@ -64,17 +73,10 @@ abbrev pub room_for : ℕ → ℕ
 room_for n = 4 * n + 128
 
 -- 20; 21 of the dump, above 65,536 bytes; 27 with less room than that
-unfoldable pub list_refusal : Dialect → ℕ → ℕ → ℕ
-list_refusal d n room = first_of (when_of (not (good d)) 20) (first_of (when_of (ltb 65_536 n) 21) (when_of (ltb room (room_for n)) 27))
-
-pub record Outcome : Type 0 where
-  pub answer : Listed
-  pub buffer : List ℕ
+unfoldable pub list_refusal : Dialect → ℕ → ℕ → Result ⊤ Refusal
+list_refusal d n room =
+    first_of (when_of (not (good d)) refusal.Dialect) (first_of (when_of (ltb 65_536 n) refusal.TooLong) (when_of (ltb room (room_for n)) refusal.NoRoom))
 
 -- the text over the front of out; a refusal changes nothing
-unfoldable pub or_refused : ℕ → List ℕ → List ℕ → Outcome
-or_refused zero text out = record { answer = Wrote (length text); buffer = front text out }
-or_refused (suc number) text out = record { answer = Refused (suc number); buffer = out }
-
-unfoldable pub listed : Dialect → List ℕ → List ℕ → Outcome
-listed d s out = or_refused (list_refusal d (length s) (length out)) (listing d s) out
+unfoldable pub listed : Dialect → List ℕ → List ℕ → Encoded
+listed d s out = settled (list_refusal d (length s) (length out)) (listing d s) out

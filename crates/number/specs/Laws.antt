@@ -5,7 +5,7 @@ use native.Mathlib.Omega.{arith}
 use Rattle.std.proofs.Math.Nat.{pow-succ'}
 use Rattle.number.specs.Number.{le, bytes}
 
--- ---- a number read byte by byte, or half by half
+-- ---- written out
 
 pub le2 : (s : List ℕ) (i : ℕ) → le 2 s i ≡ slice_index s i + slice_index s (i + 1) * 0x100
 unfolding le

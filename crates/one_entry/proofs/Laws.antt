@@ -1,6 +1,7 @@
 -- A batch of one entry, as its parts are written one behind another. Assumes nothing.
 use Prim.Native.Nat.{ℕ, ◌+◌, ◌-◌, ◌≤◌}
 use mathlib.Core.Path.{◌≡◌, sym, ap, ◌∙◌}
+use mathlib.Core.Bool.{true}
 use mathlib.Core.List.{List, [], ◌∷◌, ◌++◌, append_assoc}
 use native.Mathlib.Omega.{arith}
 use lib.ListN.{length, take, drop, length-append, length-drop, take-append-drop}
@@ -9,10 +10,16 @@ use borrow.Rule.Slice.PartMut.{mid_of}
 use Rattle.number.specs.Part.{front, tailed, then_put, body_of}
 use Rattle.xxh3.specs.Xxh3.{xxh3_64}
 use Rattle.dialect.specs.declared.Dialect.{Dialect}
+use Rattle.dialect.specs.Dialect.{good}
+use Rattle.dialect.specs.Good.{is_good}
 use Rattle.entry.specs.Entry.{Put, start, body, end, put, put_all, hashed, put_batch}
-use Rattle.entry.specs.Sizes.{start_size, batch_parts}
+use Rattle.entry.specs.Sizes.{start_size, batch_parts, one_size}
 use Rattle.writer.specs.Writing.{hashed_from}
 use Rattle.writer.specs.Laws.{hashed_stands}
+
+-- under a good dialect
+pub batch_length : (d : Dialect) (seqno : ℕ) (p : Put) → good d ≡ true → length (put_batch d xxh3_64 seqno (p ∷ [])) ≡ 22 + d.length + length (put d (body p) [])
+batch_length d seqno p g = omega (arith, one_size d xxh3_64 seqno p, (is_good d g).size)
 
 -- what stands from k on, up to the end of w, where w stands at the front
 rest_of : (k : ℕ) (w xs zs : List ℕ) → k ≤ length w → zs ≡ front w xs → take (length w - k) (drop k zs) ≡ drop k w

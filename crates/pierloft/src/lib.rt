@@ -1,10 +1,12 @@
 // What Rust and C call. include/pierloft.h declares and documents each function. A layer over the calls of the other crates and no more:
-// crate flat turns what cannot cross to C into numbers. Public: the functions pierloft_*.
+// crate flat turns what cannot cross to C into numbers. Public: the functions pierloft_*. Their parameters and answers are C's, so that none
+// of them travel together in a struct.
 #![tactic(auto)]
 
 ghost use Rattle.std.specs.Prelude.{◌≡◌, not};
 ghost use Rattle.dialect.specs.Dialect.{good, code_of, SHIPPED as shipped_dialect, TEST as test_dialect};
-ghost use Rattle.refusal.specs.Refusal.{when_of};
+ghost use Rattle.refusal.specs.Refusal.{answer_number, when_of};
+ghost use Rattle.refusal.specs.declared.Refusal.TheVariants as refusal;
 ghost use Rattle.entry.specs.Entry.{start, item, clear, body, end};
 ghost use Rattle.entry.specs.Decoded.{decoded};
 ghost use Rattle.encode.specs.Encoding.{encoded};
@@ -15,15 +17,20 @@ ghost use Rattle.stream.specs.Stream.{fresh, state};
 ghost use Rattle.stream.specs.Calls.{absorbed, finished};
 ghost use Rattle.reader.specs.Reading.{stepped, kept_of};
 ghost use Rattle.writer.specs.Writing.{open_call, put_call, close_call, write_call};
-ghost use Rattle.flat.specs.Flat.{flat_entry, reader_of, flat_stepped, flat_keep, key_span, value_span, flat_span, flat_hash, type_of, flat_written, writer_of, flat_reply, typed_count, typed_reply, typed_bytes};
+ghost use Rattle.flat.specs.Flat.{flat_entry, reader_of, flat_stepped, flat_count, key_span, value_span, flat_span, flat_hash, flat_absorbed, type_of, writer_of, flat_reply, typed_count, typed_reply, typed_bytes};
 
-use dialect::Dialect;
+use dialect::{Dialect, ValueType};
+use entry::Fault;
 use flat::{
-    FlatCount, FlatEntry, FlatHash, FlatReader, FlatReply, FlatSpan, FlatStepped, FlatWriter,
-    flat_entry, flat_hash, flat_keep, flat_reply, flat_stepped, flat_written, is_type, reader_of,
-    refused_count, refused_reply, span, type_of, writer_of,
+    Absorbed, FlatCount, FlatEntry, FlatHash, FlatReader, FlatReply, FlatSpan, FlatStepped,
+    FlatWriter, flat_entry,
 };
-use stream::{Absorbed, Hasher};
+use refusal::{Refusal, answer_number};
+use stream::Hasher;
+use view::NoItem;
+
+// A value type handed over as a number that is none of the four.
+const WRONG_TYPE: u32 = Fault::ValueType as u32;
 
 // ---- the layout of the structs
 
@@ -53,9 +60,9 @@ pub extern "C" fn pierloft_test() -> Dialect
 
 #[unsafe(no_mangle)]
 pub extern "C" fn pierloft_check(d: Dialect) -> u32
-    ensures { result ≡ when_of (not (good d)) 20 }
+    ensures { result ≡ answer_number (when_of (not (good d)) refusal.Dialect) }
 {
-    refusal::when(!d.is_good(), 20)
+    answer_number(refusal::when(!d.is_good(), Refusal::Dialect))
 }
 
 // ---- entries
@@ -73,24 +80,26 @@ pub extern "C" fn pierloft_decode(image: &[u8], at: usize, d: Dialect) -> FlatEn
 pub extern "C" fn pierloft_step(image: &[u8], reader: FlatReader, d: Dialect) -> FlatStepped
     ensures { result ≡ flat_stepped reader (stepped d (hash default_secret) image.now (reader_of reader)) }
 {
-    flat_stepped(reader, reader::step(image, reader_of(reader), d))
+    reader.stepped(reader::step(image, reader.into(), d))
 }
 
 #[unsafe(no_mangle)]
 pub extern "C" fn pierloft_kept(length: usize, reader: FlatReader) -> FlatCount
-    ensures { result ≡ flat_keep (kept_of length (reader_of reader)) }
+    ensures { result ≡ flat_count (kept_of length (reader_of reader)) }
 {
-    flat_keep(reader::kept(length, reader_of(reader)))
+    reader::kept(length, reader.into()).into()
 }
 
 // ---- views
 
+// The part alone tells `pierloft_key` and `pierloft_value` apart: a function that took it would be as long as both.
 #[unsafe(no_mangle)]
 pub extern "C" fn pierloft_key(image: &[u8], at: usize, d: Dialect) -> FlatSpan
     ensures { result ≡ key_span (pair_of (decoded d image.now at)) }
 {
     let pair = view::pair_of(entry::decode(image, at, d));
-    span(pair.number, pair.key, pair.value)
+    let key = pair.map(|pair| pair.key);
+    key.map_err(NoItem::number).into()
 }
 
 #[unsafe(no_mangle)]
@@ -98,15 +107,16 @@ pub extern "C" fn pierloft_value(image: &[u8], at: usize, d: Dialect) -> FlatSpa
     ensures { result ≡ value_span (pair_of (decoded d image.now at)) }
 {
     let pair = view::pair_of(entry::decode(image, at, d));
-    span(pair.number, pair.value, pair.next)
+    let value = pair.map(|pair| pair.value);
+    value.map_err(NoItem::number).into()
 }
 
 #[unsafe(no_mangle)]
 pub extern "C" fn pierloft_body(length: usize, from: usize, to: usize) -> FlatSpan
     ensures { result ≡ flat_span (body_span length from to) }
 {
-    let s = view::body_span(length, from, to);
-    span(s.number, s.from, s.to)
+    let body = view::body_span(length, from, to);
+    body.map_err(Refusal::number).into()
 }
 
 // ---- XXH3-64
@@ -115,7 +125,7 @@ pub extern "C" fn pierloft_body(length: usize, from: usize, to: usize) -> FlatSp
 pub extern "C" fn pierloft_xxh3_64(bytes: &[u8]) -> FlatHash
     ensures { result ≡ flat_hash (hashed bytes.now) }
 {
-    flat_hash(xxh3::xxh3_64(bytes))
+    xxh3::xxh3_64(bytes).into()
 }
 
 #[unsafe(no_mangle)]
@@ -127,16 +137,16 @@ pub extern "C" fn pierloft_hasher_new() -> Hasher
 
 #[unsafe(no_mangle)]
 pub extern "C" fn pierloft_absorb(state: Hasher, piece: &[u8]) -> Absorbed
-    ensures { result ≡ absorbed state piece.now }
+    ensures { result ≡ flat_absorbed (absorbed state piece.now) }
 {
-    stream::absorb(state, piece)
+    stream::absorb(state, piece).into()
 }
 
 #[unsafe(no_mangle)]
 pub extern "C" fn pierloft_finish(state: Hasher) -> FlatHash
     ensures { result ≡ flat_hash (finished state) }
 {
-    flat_hash(stream::finish(state))
+    stream::finish(state).into()
 }
 
 // The same two over the parts of a state, each lent: no copy of it is made.
@@ -148,24 +158,24 @@ pub extern "C" fn pierloft_absorb_at(
     total: &mut u64,
     piece: &[u8],
 ) -> u32
-    ensures { (result ≡ (absorbed (state acc.old hold.old total.old) piece.now).number) × (state acc.new hold.new total.new ≡ (absorbed (state acc.old hold.old total.old) piece.now).state) }
+    ensures { (result ≡ answer_number (absorbed (state acc.old hold.old total.old) piece.now).answer) × (state acc.new hold.new total.new ≡ (absorbed (state acc.old hold.old total.old) piece.now).state) }
 {
-    stream::absorb_at(acc, hold, total, piece)
+    answer_number(stream::absorb_at(acc, hold, total, piece))
 }
 
 #[unsafe(no_mangle)]
 pub extern "C" fn pierloft_finish_at(acc: &[u64; 8], hold: &[u8; 256], total: u64) -> FlatHash
     ensures { result ≡ flat_hash (finished (state acc.now hold.now total)) }
 {
-    flat_hash(stream::finish_at(acc, hold, total))
+    stream::finish_at(acc, hold, total).into()
 }
 
 // `pierloft_absorb` on a state that is lent and changed in place.
 #[unsafe(no_mangle)]
 pub extern "C" fn pierloft_absorb_into(state: &mut Hasher, piece: &[u8]) -> u32
-    ensures { (result ≡ (absorbed state.old piece.now).number) × (state.new ≡ (absorbed state.old piece.now).state) }
+    ensures { (result ≡ answer_number (absorbed state.old piece.now).answer) × (state.new ≡ (absorbed state.old piece.now).state) }
 {
-    stream::absorb_into(state, piece)
+    answer_number(stream::absorb_into(state, piece))
 }
 
 // ---- entries written
@@ -177,11 +187,12 @@ pub extern "C" fn pierloft_encode_start(
     count: u32,
     seqno: u64,
 ) -> FlatCount
-    ensures { (result ≡ flat_written (encoded d (start count seqno) buf.old).answer) × (buf.new ≡ (encoded d (start count seqno) buf.old).buffer) }
+    ensures { (result ≡ flat_count (encoded d (start count seqno) buf.old).answer) × (buf.new ≡ (encoded d (start count seqno) buf.old).buffer) }
 {
-    flat_written(encode::encode_start(buf, d, count, seqno))
+    encode::encode_start(buf, d, count, seqno).into()
 }
 
+#[tactic(auto, using(flat::proofs::Laws::typed, flat::proofs::Laws::untyped), unfolding(flat::specs::Flat::typed_count, flat::specs::Flat::typed_bytes))]
 #[unsafe(no_mangle)]
 pub extern "C" fn pierloft_encode_item(
     buf: &mut [u8],
@@ -193,25 +204,24 @@ pub extern "C" fn pierloft_encode_item(
 ) -> FlatCount
     ensures { (result ≡ typed_count value_type (encoded d (body (item (code_of d (type_of value_type)) keyspace key.now value.now)) buf.old)) × (buf.new ≡ typed_bytes value_type buf.old (encoded d (body (item (code_of d (type_of value_type)) keyspace key.now value.now)) buf.old).buffer) }
 {
-    if !is_type(value_type) {
-        return refused_count(32);
-    }
-    let kind = type_of(value_type);
-    flat_written(encode::encode_item(buf, d, kind, keyspace, key, value))
+    let Ok(kind) = ValueType::try_from(value_type) else {
+        return FlatCount::refused(WRONG_TYPE);
+    };
+    encode::encode_item(buf, d, kind, keyspace, key, value).into()
 }
 
 #[unsafe(no_mangle)]
 pub extern "C" fn pierloft_encode_end(buf: &mut [u8], d: Dialect, checksum: u64) -> FlatCount
-    ensures { (result ≡ flat_written (encoded d (end checksum) buf.old).answer) × (buf.new ≡ (encoded d (end checksum) buf.old).buffer) }
+    ensures { (result ≡ flat_count (encoded d (end checksum) buf.old).answer) × (buf.new ≡ (encoded d (end checksum) buf.old).buffer) }
 {
-    flat_written(encode::encode_end(buf, d, checksum))
+    encode::encode_end(buf, d, checksum).into()
 }
 
 #[unsafe(no_mangle)]
 pub extern "C" fn pierloft_encode_clear(buf: &mut [u8], d: Dialect, keyspace: u64) -> FlatCount
-    ensures { (result ≡ flat_written (encoded d (body (clear keyspace)) buf.old).answer) × (buf.new ≡ (encoded d (body (clear keyspace)) buf.old).buffer) }
+    ensures { (result ≡ flat_count (encoded d (body (clear keyspace)) buf.old).answer) × (buf.new ≡ (encoded d (body (clear keyspace)) buf.old).buffer) }
 {
-    flat_written(encode::encode_clear(buf, d, keyspace))
+    encode::encode_clear(buf, d, keyspace).into()
 }
 
 // ---- the writer
@@ -226,12 +236,10 @@ pub extern "C" fn pierloft_open(
 ) -> FlatReply
     ensures { (result ≡ flat_reply writer (open_call d buf.old (writer_of writer) count seqno).reply) × (buf.new ≡ (open_call d buf.old (writer_of writer) count seqno).bytes) }
 {
-    flat_reply(
-        writer,
-        writer::open(buf, d, writer_of(writer), count, seqno),
-    )
+    writer.reply(writer::open(buf, d, writer.into(), count, seqno))
 }
 
+#[tactic(auto, using(flat::proofs::Laws::typed, flat::proofs::Laws::untyped), unfolding(flat::specs::Flat::typed_reply, flat::specs::Flat::typed_bytes))]
 #[unsafe(no_mangle)]
 pub extern "C" fn pierloft_put_item(
     buf: &mut [u8],
@@ -244,14 +252,11 @@ pub extern "C" fn pierloft_put_item(
 ) -> FlatReply
     ensures { (result ≡ typed_reply value_type writer (put_call d buf.old (writer_of writer) (item (code_of d (type_of value_type)) keyspace key.now value.now))) × (buf.new ≡ typed_bytes value_type buf.old (put_call d buf.old (writer_of writer) (item (code_of d (type_of value_type)) keyspace key.now value.now)).bytes) }
 {
-    if !is_type(value_type) {
-        return refused_reply(writer, 32);
-    }
-    let kind = type_of(value_type);
-    flat_reply(
-        writer,
-        writer::put_item(buf, d, writer_of(writer), kind, keyspace, key, value),
-    )
+    let Ok(kind) = ValueType::try_from(value_type) else {
+        return writer.refused(WRONG_TYPE);
+    };
+    let reply = writer::put_item(buf, d, writer.into(), kind, keyspace, key, value);
+    writer.reply(reply)
 }
 
 #[unsafe(no_mangle)]
@@ -263,19 +268,17 @@ pub extern "C" fn pierloft_put_clear(
 ) -> FlatReply
     ensures { (result ≡ flat_reply writer (put_call d buf.old (writer_of writer) (clear keyspace)).reply) × (buf.new ≡ (put_call d buf.old (writer_of writer) (clear keyspace)).bytes) }
 {
-    flat_reply(
-        writer,
-        writer::put_clear(buf, d, writer_of(writer), keyspace),
-    )
+    writer.reply(writer::put_clear(buf, d, writer.into(), keyspace))
 }
 
 #[unsafe(no_mangle)]
 pub extern "C" fn pierloft_close(buf: &mut [u8], d: Dialect, writer: FlatWriter) -> FlatReply
     ensures { (result ≡ flat_reply writer (close_call d buf.old (writer_of writer)).reply) × (buf.new ≡ (close_call d buf.old (writer_of writer)).bytes) }
 {
-    flat_reply(writer, writer::close(buf, d, writer_of(writer)))
+    writer.reply(writer::close(buf, d, writer.into()))
 }
 
+#[tactic(auto, using(flat::proofs::Laws::typed, flat::proofs::Laws::untyped), unfolding(flat::specs::Flat::typed_reply, flat::specs::Flat::typed_bytes))]
 #[unsafe(no_mangle)]
 pub extern "C" fn pierloft_write_raw(
     buf: &mut [u8],
@@ -289,14 +292,11 @@ pub extern "C" fn pierloft_write_raw(
 ) -> FlatReply
     ensures { (result ≡ typed_reply value_type writer (write_call d buf.old (writer_of writer) seqno (item (code_of d (type_of value_type)) keyspace key.now value.now))) × (buf.new ≡ typed_bytes value_type buf.old (write_call d buf.old (writer_of writer) seqno (item (code_of d (type_of value_type)) keyspace key.now value.now)).bytes) }
 {
-    if !is_type(value_type) {
-        return refused_reply(writer, 32);
-    }
-    let kind = type_of(value_type);
-    flat_reply(
-        writer,
-        one_entry::write_raw(buf, d, writer_of(writer), seqno, kind, keyspace, key, value),
-    )
+    let Ok(kind) = ValueType::try_from(value_type) else {
+        return writer.refused(WRONG_TYPE);
+    };
+    let reply = one_entry::write_raw(buf, d, writer.into(), seqno, kind, keyspace, key, value);
+    writer.reply(reply)
 }
 
 #[unsafe(no_mangle)]
@@ -309,8 +309,5 @@ pub extern "C" fn pierloft_write_clear(
 ) -> FlatReply
     ensures { (result ≡ flat_reply writer (write_call d buf.old (writer_of writer) seqno (clear keyspace)).reply) × (buf.new ≡ (write_call d buf.old (writer_of writer) seqno (clear keyspace)).bytes) }
 {
-    flat_reply(
-        writer,
-        one_entry::write_clear(buf, d, writer_of(writer), seqno, keyspace),
-    )
+    writer.reply(one_entry::write_clear(buf, d, writer.into(), seqno, keyspace))
 }

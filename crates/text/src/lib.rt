@@ -1,142 +1,124 @@
-// Numbers and bytes as text in ASCII, each put over the front of a lent part, with the rest of it as it was. Helpers of
+// Numbers and bytes as text in ASCII, each put behind what already stands in a page, with the rest of it as it was. Helpers of
 // the dump: no function here is a public call, none refuses, and each assumes room for its text, which its callers prove.
 #![tactic(auto)]
 
-ghost use Rattle.std.specs.Prelude.{◌≡◌, ◌++◌, ◌+◌, ◌≤◌, ◌<◌, length, drop};
+ghost use Rattle.std.specs.Prelude.{◌≡◌, ◌++◌, ◌+◌, ◌≤◌, ◌<◌, length};
 ghost use Rattle.text.specs.Text.{ascii, digit_of, decimal, hexadecimal, or_dash};
-ghost use Rattle.text.specs.Written.{Written};
-
-use number::copy_front;
+ghost use Rattle.text.specs.Written.{HasRoom, Written};
 
 // The digit of a number below 16.
+#[tactic(auto, unfolding(crate::specs::Text::digit_of))]
 fn digit(x: u8) -> u8
     requires { x < 16 }
     ensures { result ≡ digit_of x }
 {
-    if x < 10 { 48 + x } else { 87 + x }
+    if x < 10 { b'0' + x } else { b'a' - 10 + x }
 }
 
-// A number's digits, from a place to the end of an array.
-#[derive(Clone, Copy)]
-struct Digits {
-    pub text: [u8; 20],
-    pub from: usize,
-}
-
-fn digits_of(n: u64) -> Digits
-    ensures { (length result.text ≡ 20) × (result.from ≤ 20) × (drop result.from result.text ≡ decimal n) }
+// A number's digits, at the end of a place that is lent for them. Tried by `write!`, which prints the same (`printed_decimal`): its contract
+// says what was written where it is Ok, but none of std's says that it is Ok where there is room, and `list` may not refuse then.
+fn digits_of(n: u64, text: &mut [u8; 20]) -> &[u8]
+    ensures { result.now ≡ decimal n }
 {
-    let mut text = [0u8; 20];
     let mut from = 19;
     let mut rest = n / 10;
     text[from] = digit((n % 10) as u8);
+    // it ends where the number does, not where the places do: a `for` over the places would have to leave in the middle
     while 0 < rest {
         from -= 1;
         text[from] = digit((rest % 10) as u8);
         rest /= 10;
     }
-    Digits { text, from }
+    &text[from..]
 }
 
-pub fn put_decimal(out: &mut [u8], n: u64) -> usize
-    requires { length (decimal n) ≤ length out.old }
-    ensures { Written (decimal n) out.old out.new result }
-{
-    let digits = digits_of(n);
-    let text = digits.text;
-    let from = digits.from;
-    copy_front(out, &text[from..]);
-    20 - from
+// A lent part: text over its front, up to `at`, and behind that what stood there before.
+#[derive(Drop)]
+pub struct Page<'a> {
+    out: &'a mut [u8],
+    at: usize,
 }
 
-pub fn put_word(out: &mut [u8], word: &[u8]) -> usize
-    requires { length word.now ≤ length out.old }
-    ensures { Written word.now out.old out.new result }
-{
-    copy_front(out, word);
-    word.len()
-}
-
-// A word, and behind it a number.
-pub fn put_named(out: &mut [u8], word: &[u8], n: u64) -> usize
-    requires { length word.now + length (decimal n) ≤ length out.old }
-    ensures { Written (word.now ++ decimal n) out.old out.new result }
-{
-    let at = put_word(out, word);
-    at + put_decimal(&mut out[at..], n)
-}
-
-// Two digits to each byte.
-fn put_hexadecimal(out: &mut [u8], s: &[u8]) -> usize
-    requires { length (hexadecimal s.now) ≤ length out.old }
-    ensures { Written (hexadecimal s.now) out.old out.new result }
-{
-    let mut at = 0;
-    let mut i = 0;
-    while i < s.len() {
-        let b = s[i];
-        out[at] = digit(b / 16);
-        out[at + 1] = digit(b % 16);
-        at += 2;
-        i += 1;
+impl<'a> Page<'a> {
+    pub fn new(out: &'a mut [u8]) -> Page<'a>
+        ensures part { result.out.ghost_name ≡ out.entry.ghost_name }
+        ensures blank { (result.out.now ≡ out.old) × (result.at ≡ 0) }
+    {
+        Page { out, at: 0 }
     }
-    at
-}
 
-// Bytes, none as `-`.
-pub fn put_bytes(out: &mut [u8], s: &[u8]) -> usize
-    requires { length (or_dash s.now) ≤ length out.old }
-    ensures { Written (or_dash s.now) out.old out.new result }
-{
-    if s.len() == 0 {
-        return put_word(out, b"-");
+    // How many bytes of text it has.
+    pub fn len(&self) -> usize
+        ensures { result ≡ self.now.at }
+    {
+        self.at
     }
-    put_hexadecimal(out, s)
-}
 
-// ---- lines
+    pub fn word(&mut self, word: &[u8])
+        requires { HasRoom (length word.now) self.old }
+        ensures { Written word.now self.old self.new }
+    {
+        let end = self.at + word.len();
+        self.out[self.at..end].copy_from_slice(word);
+        self.at = end;
+    }
 
-// A word and a number at the end of a line.
-pub fn put_last(out: &mut [u8], word: &[u8], n: u64) -> usize
-    requires { length word.now + length (decimal n) + 1 ≤ length out.old }
-    ensures { Written (word.now ++ decimal n ++ ascii "\n") out.old out.new result }
-{
-    let at = put_named(out, word, n);
-    at + put_word(&mut out[at..], b"\n")
-}
+    pub fn decimal(&mut self, n: u64)
+        requires { HasRoom (length (decimal n)) self.old }
+        ensures { Written (decimal n) self.old self.new }
+    {
+        let mut text = [0u8; 20];
+        self.word(digits_of(n, &mut text));
+    }
 
-// A line of three numbers, each behind its word.
-pub fn put_three(
-    out: &mut [u8],
-    first: &[u8],
-    x: u64,
-    second: &[u8],
-    y: u64,
-    third: &[u8],
-    z: u64,
-) -> usize
-    requires { length first.now + length (decimal x) + (length second.now + length (decimal y)) + (length third.now + length (decimal z) + 1) ≤ length out.old }
-    ensures { Written (first.now ++ decimal x ++ second.now ++ decimal y ++ third.now ++ decimal z ++ ascii "\n") out.old out.new result }
-{
-    let second_at = put_named(out, first, x);
-    let third_at = second_at + put_named(&mut out[second_at..], second, y);
-    third_at + put_last(&mut out[third_at..], third, z)
-}
+    // A word, and behind it a number.
+    pub fn named(&mut self, word: &[u8], n: u64)
+        requires { HasRoom (length word.now + length (decimal n)) self.old }
+        ensures { Written (word.now ++ decimal n) self.old self.new }
+    {
+        self.word(word);
+        self.decimal(n);
+    }
 
-// Bytes, and what stands behind them.
-fn put_part(out: &mut [u8], s: &[u8], behind: &[u8]) -> usize
-    requires { length (or_dash s.now) + length behind.now ≤ length out.old }
-    ensures { Written (or_dash s.now ++ behind.now) out.old out.new result }
-{
-    let at = put_bytes(out, s);
-    at + put_word(&mut out[at..], behind)
-}
+    // Two digits to each byte.
+    fn hexadecimal(&mut self, s: &[u8])
+        requires { HasRoom (length (hexadecimal s.now)) self.old }
+        ensures { Written (hexadecimal s.now) self.old self.new }
+    {
+        for b in s {
+            self.word(&[digit(*b / 16), digit(*b % 16)]);
+        }
+    }
 
-// Two parts at the end of a line.
-pub fn put_pair(out: &mut [u8], first: &[u8], second: &[u8]) -> usize
-    requires { length (or_dash first.now) + length (or_dash second.now) + 2 ≤ length out.old }
-    ensures { Written (or_dash first.now ++ ascii " " ++ (or_dash second.now ++ ascii "\n")) out.old out.new result }
-{
-    let at = put_part(out, first, b" ");
-    at + put_part(&mut out[at..], second, b"\n")
+    // Bytes, none as `-`.
+    pub fn bytes(&mut self, s: &[u8])
+        requires { HasRoom (length (or_dash s.now)) self.old }
+        ensures { Written (or_dash s.now) self.old self.new }
+    {
+        if s.is_empty() {
+            self.word(b"-");
+        } else {
+            self.hexadecimal(s);
+        }
+    }
+
+    // ---- the end of a line
+
+    pub fn end_line(&mut self)
+        requires { HasRoom 1 self.old }
+        ensures { Written (ascii "\n") self.old self.new }
+    {
+        self.word(b"\n");
+    }
+
+    // Two parts at the end of a line.
+    pub fn pair(&mut self, first: &[u8], second: &[u8])
+        requires { HasRoom (length (or_dash first.now) + length (or_dash second.now) + 2) self.old }
+        ensures { Written (or_dash first.now ++ ascii " " ++ or_dash second.now ++ ascii "\n") self.old self.new }
+    {
+        self.bytes(first);
+        self.word(b" ");
+        self.bytes(second);
+        self.end_line();
+    }
 }

@@ -5,33 +5,33 @@
 ghost use Rattle.std.specs.Prelude.{◌≡◌, IfOk, IfSome};
 ghost use Rattle.xxh3.specs.Hashed.{hashed};
 
+use refusal::Refusal;
 use std::io;
 use std::io::Read;
 use stream::Hasher;
-use xxh3::Hashed;
 
 // Reads the input to its end, or to the piece that is refused, by pieces of at most 65,536 bytes.
-fn absorb_input<R: Read>(input: &mut R) -> io::Result<Hashed>
+fn absorb_input<R: Read>(input: &mut R) -> io::Result<Result<u64, Refusal>>
     ensures { IfOk result (λ answer. IfSome (R.remaining input.old) (λ bytes. answer ≡ hashed bytes)) }
 {
     let mut state = Hasher::new();
     let mut piece = [0; 65536];
+    // No `for`: the input ends where it ends.
     loop {
         let n = input.read(&mut piece)?;
         if n == 0 {
             return Ok(stream::finish(state));
         }
-        let number = stream::absorb_into(&mut state, &piece[..n]);
-        if number != 0 {
-            return Ok(Hashed::Refused(number));
+        if let Err(refusal) = stream::absorb_into(&mut state, &piece[..n]) {
+            return Ok(Err(refusal));
         }
     }
 }
 
-fn print_answer(rt: &impl Print, answer: Hashed) -> io::Result<()> {
+fn print_answer(rt: &impl Print, answer: Result<u64, Refusal>) -> io::Result<()> {
     match answer {
-        Hashed::Sum(sum) => println!(rt; "{sum:016x}"),
-        Hashed::Refused(number) => println!(rt; "refused {number}"),
+        Ok(sum) => println!(rt; "{sum:016x}"),
+        Err(refusal) => println!(rt; "refused {refusal}"),
     }
 }
 

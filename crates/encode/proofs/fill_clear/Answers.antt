@@ -9,4 +9,4 @@ pub returns : goal.returns
 returns c =
     let a = c.args in
     read_as _ _ a.buf.now _ (clear_shape a.keyspace)
-    (then_put 1 (4 ∷ []) (bytes 8 a.keyspace) a.buf.now _ _ refl c.put_u8.ensures c.put_u64.ensures)
+    (then_put 1 (4 ∷ []) (bytes 8 a.keyspace) a.buf.now _ _ refl c.put_u8.ensures c.put.ensures)

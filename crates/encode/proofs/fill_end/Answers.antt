@@ -13,5 +13,5 @@ returns c =
     let a = c.args in
     read_as _ _ a.buf.now _ (end_shape a.checksum (take a.d.length a.d.magic))
     (then_put 9 (3 ∷ bytes 8 a.checksum) (take a.d.length a.d.magic) a.buf.now _ _ refl
-    (then_put 1 (3 ∷ []) (bytes 8 a.checksum) a.buf.now _ _ refl c.put_u8.ensures c.put_u64.ensures)
-    c.put_magic.ensures)
+    (then_put 1 (3 ∷ []) (bytes 8 a.checksum) a.buf.now _ _ refl c.put_u8.ensures c.put.ensures)
+    c.copy_front.ensures)

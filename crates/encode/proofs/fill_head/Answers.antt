@@ -12,6 +12,10 @@ returns c =
     let a = c.args in
     let t : List ℕ = 2 ∷ a.code ∷ a.none ∷ [] in
     read_as _ _ a.buf.now _ (head_shape a.code a.none a.keyspace a.key a.value)
-    (then_put 11 (t ++ bytes 8 a.keyspace) (bytes 2 a.key ++ bytes 4 a.value ++ bytes 4 a.value) a.buf.now _ _ refl
-    (then_put 3 t (bytes 8 a.keyspace) a.buf.now _ _ refl c.put_codes.ensures c.put_u64.ensures)
-    c.put_lengths.ensures)
+    (then_put 17 (((t ++ bytes 8 a.keyspace) ++ bytes 2 a.key) ++ bytes 4 a.value) (bytes 4 a.value) a.buf.now _ _ refl
+    (then_put 13 ((t ++ bytes 8 a.keyspace) ++ bytes 2 a.key) (bytes 4 a.value) a.buf.now _ _ refl
+    (then_put 11 (t ++ bytes 8 a.keyspace) (bytes 2 a.key) a.buf.now _ _ refl
+    (then_put 3 t (bytes 8 a.keyspace) a.buf.now _ _ refl c.copy_front.ensures c.put.ensures)
+    c.put-2.ensures)
+    c.put-3.ensures)
+    c.put-4.ensures)

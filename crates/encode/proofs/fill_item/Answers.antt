@@ -1,7 +1,8 @@
 use Rattle.encode.proofs.Rows.{item_shape}
+use Rattle.dialect.specs.Dialect.{code_of}
 use Rattle.entry.specs.Sizes.{head_size}
 use Rattle.entry.specs.Entry.{head_row, joined}
-use Rattle.number.specs.Part.{then_put, read_as}
+use Rattle.number.specs.Part.{front, then_put, read_as}
 use lib.ListN.{length, length-append}
 use mathlib.Core.List.{◌++◌}
 use mathlib.Core.Path.{ap, ◌∙◌}
@@ -11,9 +12,11 @@ use Rattle.encode.proofs.fill_item.Goals as goal
 pub returns : goal.returns
 returns c =
     let a = c.args in
-    let l = head_size a.code a.none a.keyspace (length a.key.now) (length a.value.now) in
-    let h = joined (head_row a.code a.none a.keyspace (length a.key.now) (length a.value.now)) in
-    read_as _ _ a.buf.now _ (item_shape a.code a.none a.keyspace a.key.now a.value.now)
-    (then_put (21 + length a.key.now) (h ++ a.key.now) a.value.now a.buf.now _ _ (length-append h a.key.now ∙ ap (λ (n : ℕ). n + length a.key.now) l)
-    (then_put 21 h a.key.now a.buf.now _ _ l c.fill_head.ensures c.copy_front.ensures)
+    let i = a.item in
+    let code = code_of a.d i.value_type in
+    let l = head_size code a.d.none i.keyspace (length i.key.now) (length i.value.now) in
+    let h = joined (head_row code a.d.none i.keyspace (length i.key.now) (length i.value.now)) in
+    read_as _ _ a.buf.now _ (item_shape code a.d.none i.keyspace i.key.now i.value.now)
+    (then_put (21 + length i.key.now) (h ++ i.key.now) i.value.now a.buf.now _ _ (length-append h i.key.now ∙ ap (λ (n : ℕ). n + length i.key.now) l)
+    (then_put 21 h i.key.now a.buf.now _ _ l (c.fill_head.ensures ∙ ap (λ (n : ℕ). front (joined (head_row n a.d.none i.keyspace (length i.key.now) (length i.value.now))) a.buf.now) c.code.ensures) c.copy_front.ensures)
     c.copy_front-2.ensures)

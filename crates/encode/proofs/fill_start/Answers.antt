@@ -11,5 +11,5 @@ returns c =
     let a = c.args in
     read_as _ _ a.buf.now _ (start_shape a.count a.seqno)
     (then_put 5 (1 ∷ bytes 4 a.count) (bytes 8 a.seqno) a.buf.now _ _ refl
-    (then_put 1 (1 ∷ []) (bytes 4 a.count) a.buf.now _ _ refl c.put_u8.ensures c.put_u32.ensures)
-    c.put_u64.ensures)
+    (then_put 1 (1 ∷ []) (bytes 4 a.count) a.buf.now _ _ refl c.put_u8.ensures c.put.ensures)
+    c.put-2.ensures)

@@ -1,20 +1,24 @@
-use Rattle.entry.proofs.Laws.{refused, taken}
+use Rattle.std.proofs.Common.{arith, Ok, Err}
+use Rattle.std.proofs.lemmas.Grind.{common_steps}
+use Rattle.dialect.specs.Asked.{image_refusal}
+use Rattle.entry.specs.Decoded.{decoded, or_else}
+use Rattle.entry.specs.declared.NoEntry.TheVariants.{Refused}
+use Rattle.refusal.specs.declared.Refusal.TheVariants.{State}
 use Rattle.entry.proofs.Means.{answered}
-use Rattle.refusal.specs.Laws.{image_zero}
-use mathlib.Core.Path.{sym, ◌∙◌}
 use Rattle.entry.proofs.decode.Goals as goal
 
-pub returns-then-refused-ne0 : goal.returns-then-refused-ne0
-returns-then-refused-ne0 c =
-    let a = c.args in
-    answered a.d a.image.now a.at _ (refused _ _ _ _ c.image_refusal-refused.ensures c.if-refused-ne0.true)
+pub returns-in_err-journal : goal.returns-in_err-journal
+unfolding decoded or_else image_refusal
+returns-in_err-journal c = let a = c.args in answered a.d a.image.now a.at c.from_residual.result (grind (arith, common_steps))
 
-pub entry_at-requires : goal.entry_at-requires
-entry_at-requires c =
-    let w = image_zero _ _ _ (sym c.image_refusal-refused.ensures ∙ c.if-refused-ne0.false) in
-    (w.within, w.fine)
+pub returns-then-image-at : goal.returns-then-image-at
+unfolding decoded or_else image_refusal
+returns-then-image-at c = let a = c.args in answered a.d a.image.now a.at (Err (Refused State)) (grind (arith, common_steps))
+
+pub returns-in_err-entry_at : goal.returns-in_err-entry_at
+unfolding decoded or_else image_refusal
+returns-in_err-entry_at c = let a = c.args in answered a.d a.image.now a.at c.from_residual-in_err-entry_at.result (grind (arith, common_steps))
 
 pub returns : goal.returns
-returns c =
-    let a = c.args in
-    answered a.d a.image.now a.at _ (taken _ _ _ _ c.image_refusal-refused.ensures c.if-refused-ne0.false _ c.entry_at.ensures)
+unfolding decoded or_else image_refusal
+returns c = let a = c.args in answered a.d a.image.now a.at (Ok c.in_ok-entry_at.field-0) (grind (arith, common_steps))

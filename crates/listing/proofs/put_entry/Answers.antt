@@ -1,76 +1,30 @@
-use lib.ListN.{length}
-use mathlib.Core.Path.{sym, ◌∙◌, ap}
-use Rattle.listing.proofs.Lines.{clear_pieces}
-use Rattle.listing.proofs.Sizes.{clear_size}
+use Rattle.std.proofs.Common.{sym, arith}
 use Rattle.text.specs.Written.{named, nothing}
-use native.Mathlib.Omega.{arith}
-use Rattle.listing.proofs.Entries.{Tells, tells, blank}
-use Rattle.entry.proofs.Tags.{not_item, not_clear}
+use Rattle.listing.proofs.Entries.{of_fault, of_other, of_item, of_clear}
 use Rattle.listing.proofs.put_entry.Goals as goal
+
+pub returns-in_default : goal.returns-in_default
+returns-in_default c = let w = of_fault _ _ _ c.requires.0 c.in_default.ensures in (named (sym w.line) (nothing _), w.goes)
+
+pub slice_bounds-put_item-end : goal.slice_bounds-put_item-end
+slice_bounds-put_item-end c = let w = of_item _ _ _ c.requires.0 (rw c.in-Item.is at c.in-Ok.ensures) in omega (arith, w.2, w.3)
+
+pub slice_bounds-put_item-end-in-Item : goal.slice_bounds-put_item-end-in-Item
+slice_bounds-put_item-end-in-Item c = (of_item _ _ _ c.requires.0 (rw c.in-Item.is at c.in-Ok.ensures)).3
+
+pub put_item-requires : goal.put_item-requires
+put_item-requires c = rw ((of_item _ _ _ c.requires.0 (rw c.in-Item.is at c.in-Ok.ensures)).0.line) c.requires.1
+
+pub returns-in-Item : goal.returns-in-Item
+returns-in-Item c = let w = of_item _ _ _ c.requires.0 (rw c.in-Item.is at c.in-Ok.ensures) in (named w.0.line c.put_item.ensures, w.0.goes)
+
+pub put_clear-requires : goal.put_clear-requires
+put_clear-requires c = rw ((of_clear _ _ _ c.requires.0 (rw c.in-Clear.is at c.in-Ok.ensures)).line) c.requires.1
+
+pub returns-in-Clear : goal.returns-in-Clear
+returns-in-Clear c = let w = of_clear _ _ _ c.requires.0 (rw c.in-Clear.is at c.in-Ok.ensures) in (named w.line c.put_clear.ensures, w.goes)
 
 pub returns-in_default-e : goal.returns-in_default-e
 returns-in_default-e c =
-    let a = c.args in
-    let e = c.entry_at-e in
-    let w = blank a.d a.image.now a.at e.result _ (not_item e.result c.in_default.not-Item) (not_clear e.result c.in_default-e.not-Clear) (tells a.d a.image.now a.at c.requires.1 e.result e.ensures) in
+    let w = of_other _ _ _ _ c.requires.0 c.in-Ok.ensures c.in_default-e.not-Item c.in_default-e.not-Clear in
     (named (sym w.line) (nothing _), w.goes)
-
-pub put_last-put-requires : goal.put_last-put-requires
-unfolding Tells
-put_last-put-requires c =
-    let w = tells _ _ _ c.requires.1 _ (sym c.in-Clear.is ∙ c.entry_at-e.ensures) in
-    omega (arith, clear_size c.args.d c.in-Clear.keyspace, ap length w.line, c.requires.2)
-
-pub returns-in_default : goal.returns-in_default
-unfolding Tells
-returns-in_default c =
-    let w = tells _ _ _ c.requires.1 _ (sym c.in-Clear.is ∙ c.entry_at-e.ensures) in
-    (named (clear_pieces _ _ ∙ w.line) c.put_last-put.ensures, w.goes)
-
-pub slice_bounds-put_item-count : goal.slice_bounds-put_item-count
-unfolding Tells
-slice_bounds-put_item-count c =
-    let w = tells _ _ _ c.requires.1 _ (sym c.in-Item.is ∙ c.entry_at-e.ensures) in
-    w.1
-
-pub slice_bounds-put_item-start : goal.slice_bounds-put_item-start
-unfolding Tells
-slice_bounds-put_item-start c =
-    let w = tells _ _ _ c.requires.1 _ (sym c.in-Item.is ∙ c.entry_at-e.ensures) in
-    w.1
-
-pub slice_bounds-put_item-end : goal.slice_bounds-put_item-end
-unfolding Tells
-slice_bounds-put_item-end c =
-    let w = tells _ _ _ c.requires.1 _ (sym c.in-Item.is ∙ c.entry_at-e.ensures) in
-    omega (arith, w.2, w.3)
-
-pub slice_bounds-put_item-count-2 : goal.slice_bounds-put_item-count-2
-unfolding Tells
-slice_bounds-put_item-count-2 c =
-    let w = tells _ _ _ c.requires.1 _ (sym c.in-Item.is ∙ c.entry_at-e.ensures) in
-    w.2
-
-pub slice_bounds-put_item-start-2 : goal.slice_bounds-put_item-start-2
-unfolding Tells
-slice_bounds-put_item-start-2 c =
-    let w = tells _ _ _ c.requires.1 _ (sym c.in-Item.is ∙ c.entry_at-e.ensures) in
-    w.2
-
-pub slice_bounds-put_item-end-2 : goal.slice_bounds-put_item-end-2
-unfolding Tells
-slice_bounds-put_item-end-2 c =
-    let w = tells _ _ _ c.requires.1 _ (sym c.in-Item.is ∙ c.entry_at-e.ensures) in
-    w.3
-
-pub put_item-put-requires : goal.put_item-put-requires
-unfolding Tells
-put_item-put-requires c =
-    let w = tells _ _ _ c.requires.1 _ (sym c.in-Item.is ∙ c.entry_at-e.ensures) in
-    rw w.0.line c.requires.2
-
-pub returns : goal.returns
-unfolding Tells
-returns c =
-    let w = tells _ _ _ c.requires.1 _ (sym c.in-Item.is ∙ c.entry_at-e.ensures) in
-    (named w.0.line c.put_item-put.ensures, w.0.goes)

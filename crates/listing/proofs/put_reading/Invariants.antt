@@ -1,13 +1,15 @@
-use lib.ListN.{length}
 use Rattle.listing.specs.Walk.{lines_from}
 use Rattle.text.specs.Written.{Partly}
 use Rattle.reader.specs.Reading.{reader}
-use mathlib.Core.Path.{◌≡◌}
-use Prim.Native.Nat.{◌≤◌, ◌-◌}
+use Rattle.std.proofs.Common.{◌≡◌, ◌≤◌, ◌-◌, length}
 use Rattle.listing.proofs.put_reading.Given as goal
 
-abbrev pub invariant-loop-seqno : goal.invariant-loop-seqno
-invariant-loop-seqno l = (l.state ≡ reader l.state.position) × (l.state.position ≤ length l.image) × Partly (lines_from l.d l.image 0) (lines_from l.d l.image l.state.position) l.initial.out l.out l.put
+abbrev pub invariant-loop-batch : goal.invariant-loop-batch
+invariant-loop-batch l =
+    let d = l.journal.dialect in
+    let s = l.journal.image.now in
+    let at = l.state.position in
+    (l.state ≡ reader at) × (at ≤ length s) × Partly (lines_from d s 0) (lines_from d s at) l.initial.page l.page
 
-abbrev pub decreases-loop-seqno : goal.decreases-loop-seqno
-decreases-loop-seqno l = length l.image - l.state.position
+abbrev pub decreases-loop-batch : goal.decreases-loop-batch
+decreases-loop-batch l = length l.journal.image.now - l.state.position

@@ -1,17 +1,12 @@
-use Rattle.std.proofs.Common.{refl, ◌∙◌, arith, length-set, rules}
+use Rattle.std.proofs.Common.{refl}
 use Rattle.number.proofs.Copy.{copy_more, copy_done}
 use Rattle.number.proofs.copy_front.Goals as goal
 
 pub loop-i-init : goal.loop-i-init
-loop-i-init c = (search rules, refl, refl)
+loop-i-init c = refl
 
 pub loop-i-preserved : goal.loop-i-preserved
-loop-i-preserved c =
-    let a = c.args in
-    let l = c.loop-i in
-    (omega arith, length-set l.dst l.i _ ∙ l.invariant.1, copy_more l.i a.src.now a.dst.now l.dst l.invariant.2 (omega arith) (omega arith))
+loop-i-preserved c = copy_more c.loop-i.i c.args.src.now c.args.dst.now c.loop-i.dst c.loop-i.invariant c.loop-i-test.true c.requires
 
 pub returns : goal.returns
-returns c =
-    let l = c.loop-i in
-    copy_done l.i c.args.src.now c.args.dst.now l.dst l.invariant.2 (omega arith) (omega arith)
+returns c = copy_done c.loop-i.i c.args.src.now c.args.dst.now c.loop-i.dst c.loop-i.invariant c.loop-i.auto.i-end c.loop-i-test.false

@@ -1,11 +1,6 @@
-use Rattle.std.proofs.Common.{refl}
-use Rattle.number.specs.Number.{rotl}
-use Rattle.number.proofs.Bytes.{rot64_lt}
+use Rattle.std.proofs.Common.{◌∙◌}
+use Rattle.number.proofs.Bytes.{rotated64}
 use Rattle.number.proofs.rotl64.Goals as goal
 
-pub overflow_add-result : goal.overflow_add-result
-overflow_add-result c = record { fits = rot64_lt c.args.x c.args.k c.requires.1 c.ranges.x.fits }
-
 pub returns : goal.returns
-unfolding rotl
-returns c = refl
+returns c = c.rotate_left.ensures ∙ rotated64 c.args.x c.args.k c.requires.0 c.requires.1 c.ranges.x.fits

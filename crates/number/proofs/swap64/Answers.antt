@@ -1,6 +1,7 @@
 use Rattle.std.proofs.Common.{arith}
-use Rattle.number.proofs.Bytes.{swap8}
+use Rattle.number.specs.Number.{swapped}
 use Rattle.number.proofs.swap64.Goals as goal
 
 pub returns : goal.returns
-returns c = rw swap8 (omega arith)
+unfolding swapped
+returns c = omega (arith, c.swap_bytes.ensures)

@@ -1,51 +1,41 @@
-use Rattle.number.specs.Laws.{Octets}
-use Rattle.plan.specs.Plan.{run_at}
-use Rattle.entry.specs.Entry.{entry}
-use Rattle.entry.specs.Decoded.{shown}
-use Rattle.reader.specs.Turn.{stands_of, turned}
-use mathlib.Core.Bool.{Bool, ◌&&◌}
+use Prim.Native.Nat.{suc, ◌+◌, ◌-◌}
+use mathlib.Core.Bool.{◌&&◌}
 use Rattle.reader.proofs.Rest.{walk_begins, walk_ends, walk_on, covers}
-use Rattle.reader.specs.declared.Answer.TheVariants.{Ended}
-use Rattle.reader.specs.declared.Turn.{Turn}
-use mathlib.Core.Path.{◌≡◌, ap, sym, ◌∙◌}
+use mathlib.Core.Path.{◌≡◌, sym, ◌∙◌}
 use native.Mathlib.Omega.{arith}
+use Rattle.std.proofs.lemmas.Result.{err_from_is_err_and}
 use Rattle.reader.proofs.rest_from.Goals.{then-stands, else-stands}
 use Rattle.reader.proofs.rest_from.Goals as goal
 
-pub loop-left-init : goal.loop-left-init
-loop-left-init c = walk_begins _ _ _ _ _ _ c.requires.1
+pub returns-in_err-turn : goal.returns-in_err-turn
+returns-in_err-turn c =
+    let l = c.loop in
+    let p = err_from_is_err_and c.from_residual.result c.from_residual.ensures.1 in
+    let e : c.args.opened.count - l.counter ≡ suc (c.args.opened.count - (l.counter + 1)) = omega arith in
+    rw (p.1, p.2) (walk_ends _ _ _ _ _ _ l.at _ l.stands l.invariant _ e _ (sym c.in_err-turn.ensures))
 
-pub turn_at-turn-requires : goal.turn_at-turn-requires
-turn_at-turn-requires c =
-    (c.loop-left.invariant.within, c.requires.3)
-
-pub returns-then-outcome-ne0 : goal.returns-then-outcome-ne0
-returns-then-outcome-ne0 c =
-    let l = c.loop-left in
-    let e = ap (λ (t : Turn). t.outcome) c.turn_at-turn.ensures in
-    ap Ended e ∙ walk_ends _ _ _ _ _ _ l.at l.left l.stands l.invariant c.loop-left-test.true (λ z. c.if-outcome-ne0.true (e ∙ z))
-
-pub loop-left-preserved : goal.loop-left-preserved
-loop-left-preserved c =
+pub loop-preserved : goal.loop-preserved
+loop-preserved c =
     let a = c.args in
-    let l = c.loop-left in
-    let o : Octets a.image.now = λ i. omega (arith, c.type_inv.image i) in
-    let e = shown (run_at (entry a.d) a.image.now l.at) in
-    let t : c.turn_at-turn.result ≡ turned a.image.now e = c.turn_at-turn.ensures in
-    let s : c.if-stands.stands ≡ (l.stands && stands_of a.image.now e) =
+    let l = c.loop in
+    let t = c.in_ok-turn.turn in
+    let e : a.opened.count - l.counter ≡ suc (a.opened.count - (l.counter + 1)) = omega arith in
+    let s : c.if-stands.stands ≡ (l.stands && t.stands) =
     elim c.if-stands.branch [
-      | then-stands w ↦ rw (w.if-stands.true, w.stands-is, t)
-      | else-stands w ↦ w.stands-is ∙ w.if-stands.false ∙ ap (λ (b : Bool). b && stands_of a.image.now e) (sym w.if-stands.false)
+      | then-stands w ↦ rw w.if-stands.true w.stands-is
+      | else-stands w ↦ rw w.if-stands.false (w.stands-is ∙ w.if-stands.false)
     ] in
-    rw (s, t) (walk_on _ _ _ _ _ _ l.at l.left l.stands l.invariant o c.loop-left-test.true (sym (ap (λ (x : Turn). x.outcome) t) ∙ c.if-outcome-ne0.false))
-
-pub close_at-requires : goal.close_at-requires
-close_at-requires c =
-    let l = c.loop-left in
-    let v = covers _ _ _ _ _ _ l.at l.left l.stands (omega arith) c.requires.1 l.invariant in
-    (c.requires.0, c.requires.2, c.requires.3, v.counted)
+    rw s (walk_on _ _ _ _ _ _ l.at _ l.stands l.invariant a.journal.now.octets _ e t (sym c.in_ok-turn.ensures))
 
 pub returns : goal.returns
 returns c =
-    let l = c.loop-left in
-    c.close_at.ensures ∙ (covers _ _ _ _ _ _ l.at l.left l.stands (omega arith) c.requires.1 l.invariant).closes
+    let l = c.loop in
+    c.close_at.ensures ∙ (covers _ _ _ _ _ _ l.at _ l.stands (omega arith) c.requires l.invariant).closes
+
+pub loop-init : goal.loop-init
+loop-init c = walk_begins _ _ _ _ _ _ c.requires _ (omega arith)
+
+pub close_at-requires : goal.close_at-requires
+close_at-requires c =
+    let l = c.loop in
+    (covers _ _ _ _ _ _ l.at _ l.stands (omega arith) c.requires l.invariant).counted

@@ -1,8 +1,6 @@
+use Prim.Native.Nat.{◌-◌}
 use Rattle.reader.proofs.Rest.{Walk}
 use Rattle.reader.proofs.rest_from.Given as goal
 
-abbrev pub invariant-loop-left : goal.invariant-loop-left
-invariant-loop-left l = Walk l.d l.secret l.image l.count l.seqno l.body l.at l.left l.stands
-
-abbrev pub decreases-loop-left : goal.decreases-loop-left
-decreases-loop-left l = l.left
+abbrev pub invariant-loop : goal.invariant-loop
+invariant-loop l = Walk l.journal.dialect l.secret l.journal.image.now l.opened.count l.opened.seqno l.opened.body l.at (l.opened.count - l.counter) l.stands

@@ -1,8 +1,6 @@
+use Prim.Native.Nat.{◌-◌}
 use Rattle.reader.proofs.Rest.{Again}
 use Rattle.reader.proofs.sum_anew.Given as goal
 
-abbrev pub invariant-loop-left : goal.invariant-loop-left
-invariant-loop-left l = Again l.d l.secret l.image l.body l.count l.at l.left l.acc l.hold
-
-abbrev pub decreases-loop-left : goal.decreases-loop-left
-decreases-loop-left l = l.left
+abbrev pub invariant-loop : goal.invariant-loop
+invariant-loop l = Again l.journal.dialect l.secret l.journal.image.now l.fn.opened.body l.fn.opened.count l.at (l.fn.opened.count - l.counter) l.hasher

@@ -1,20 +1,6 @@
 use Rattle.stream.proofs.Blocks.{over}
-use lib.Seq.{length-take-le}
-use lib.ListN.{length, take}
 use native.Mathlib.Omega.{arith}
-use mathlib.Core.Path.{◌≡◌, sym}
 use Rattle.stream.proofs.absorb_over.Goals as goal
-
-pub slice_bounds-fill-end : goal.slice_bounds-fill-end
-slice_bounds-fill-end c =
-    let a = c.args in
-    sym (length-take-le c.room-m.result a.p.now (omega arith))
-
-pub fill-requires : goal.fill-requires
-fill-requires c =
-    let a = c.args in
-    let t : length (take c.room-m.result a.p.now) ≡ c.room-m.result = length-take-le c.room-m.result a.p.now (omega arith) in
-    omega arith
 
 pub returns : goal.returns
 returns c =

@@ -1,24 +1,12 @@
-use Rattle.text.proofs.Laws.{no_digits, some_left, fewer, more_digits, last_digit}
-use Rattle.std.proofs.Common.{rules}
+use Rattle.text.specs.Value.{no_digits}
+use Rattle.text.proofs.Laws.{some_left, fewer, more_digits, last_digit, from_place}
 use lib.ListN.{length-set}
 use native.Mathlib.Omega.{arith}
 use mathlib.Core.Path.{◌≡◌, ◌∙◌}
 use Rattle.text.proofs.digits_of.Goals as goal
 
 pub loop-rest-init : goal.loop-rest-init
-loop-rest-init c = (search rules, search rules, omega arith, last_digit c.args.n c.digit.result c.digit.ensures)
-
-pub overflow_sub-from : goal.overflow_sub-from
-overflow_sub-from c =
-    let l = c.loop-rest in
-    let p = some_left l.from l.rest (omega arith) l.invariant.2 in
-    search rules
-
-pub bounds-text-from-in-loop-rest : goal.bounds-text-from-in-loop-rest
-bounds-text-from-in-loop-rest c =
-    let l = c.loop-rest in
-    let p = some_left l.from l.rest (omega arith) l.invariant.2 in
-    omega arith
+loop-rest-init c = (omega arith, length-set c.args.text.now _ _ ∙ c.told-text, omega arith, last_digit c.args.n c.digit.result c.args.text.now c.told-text c.digit.ensures)
 
 pub loop-rest-preserved : goal.loop-rest-preserved
 loop-rest-preserved c =
@@ -30,4 +18,4 @@ pub returns : goal.returns
 returns c =
     let l = c.loop-rest in
     let z : l.rest ≡ 0 = omega arith in
-    (l.invariant.1, omega arith, rw (z, no_digits l.from) at l.invariant.3)
+    from_place l.text _ l.from l.invariant.1 (rw (z, no_digits l.from) at l.invariant.3)

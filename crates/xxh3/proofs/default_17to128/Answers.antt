@@ -9,19 +9,19 @@ use Rattle.xxh3.proofs.default_17to128.Goals as goal
 
 pub round_default-third-requires : goal.round_default-third-requires
 unfolding le default_secret
-round_default-third-requires c = (search rules, search rules, refl, refl, refl, refl)
+round_default-third-requires c = (search rules, search rules, refl)
 
 pub round_default-second-requires : goal.round_default-second-requires
 unfolding le default_secret
-round_default-second-requires c = (search rules, search rules, refl, refl, refl, refl)
+round_default-second-requires c = (search rules, search rules, refl)
 
 pub round_default-first-requires : goal.round_default-first-requires
 unfolding le default_secret
-round_default-first-requires c = (search rules, search rules, refl, refl, refl, refl)
+round_default-first-requires c = (search rules, search rules, refl)
 
 pub round_default-requires : goal.round_default-requires
 unfolding le default_secret
-round_default-requires c = (search rules, search rules, refl, refl, refl, refl)
+round_default-requires c = (search rules, search rules, refl)
 
 pub returns : goal.returns
 unfolding xxh3_64_17to128

@@ -10,13 +10,16 @@ returns-then-n-eq0 g c =
     let read = c.in_ok-n.ensures in
     at_end _ _ _ _ _ _ c.loop-n.invariant read.bytes.0 (sym read.bound.1 ∙ c.if-n-eq0.true) (read.bytes.1 c.if-n-eq0.true (omega arith)) c.finish.ensures.0
 
-pub returns-then-number-ne0 : goal.returns-then-number-ne0
-returns-then-number-ne0 g c = at_refusal _ _ _ _ _ _ c.loop-n.invariant c.in_ok-n.ensures.bytes.0 c.absorb_into-number.ensures.0 c.if-number-ne0.true
+pub returns-in-Err : goal.returns-in-Err
+returns-in-Err g c = at_refusal _ _ _ _ _ _ c.loop-n.invariant c.in_ok-n.ensures.bytes.0 (sym c.absorb_into.ensures.0 ∙ c.in-Err.is)
 
 pub loop-n-smaller : goal.loop-n-smaller
 loop-n-smaller g c =
     let read = c.in_ok-n.ensures in
-    nears _ _ _ _ _ _ _ c.loop-n.invariant read.bytes.0 c.absorb_into-number.ensures.0 c.absorb_into-number.ensures.1 c.if-number-ne0.false (omega (arith, read.bound.1))
+    let taken = c.absorb_into.ensures in
+    nears _ _ _ _ _ _ c.loop-n.invariant read.bytes.0 (sym taken.0 ∙ c.in_default.is) taken.1 (omega (arith, read.bound.1))
 
 pub loop-n-preserved : goal.loop-n-preserved
-loop-n-preserved g c = more _ _ _ _ _ _ _ c.loop-n.invariant c.in_ok-n.ensures.bytes.0 c.absorb_into-number.ensures.0 c.absorb_into-number.ensures.1 c.if-number-ne0.false
+loop-n-preserved g c =
+    let taken = c.absorb_into.ensures in
+    more _ _ _ _ _ _ c.loop-n.invariant c.in_ok-n.ensures.bytes.0 (sym taken.0 ∙ c.in_default.is) taken.1

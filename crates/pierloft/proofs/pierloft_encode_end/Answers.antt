@@ -1,6 +1,0 @@
-use Rattle.pierloft.proofs.pierloft_encode_end.Goals as goal
-
-pub returns : goal.returns
-returns c =
-    let e = c.encode_end.ensures in
-    (rw (c.flat_written.ensures, e.0), e.1)

@@ -1,7 +1,0 @@
-use Rattle.pierloft.proofs.pierloft_write_clear.Goals as goal
-
-pub returns : goal.returns
-returns c =
-    let e = c.write_clear.ensures in
-    let w = c.writer_of.ensures in
-    (rw (c.flat_reply.ensures, e.0, w), rw (e.1, w))

@@ -1,6 +1,0 @@
-use Rattle.xxh3.specs.Xxh3.{default_secret}
-use Rattle.stream.proofs.large_default.Goals as goal
-
-pub returns : goal.returns
-unfolding default_secret
-returns c = c.finish_large.ensures
