@@ -17,6 +17,7 @@ use Rattle.dialect.specs.declared.Dialect.{Dialect}
 use Rattle.dialect.specs.Dialect.{good}
 use Rattle.dialect.specs.Good.{is_good}
 use Rattle.refusal.specs.declared.Refusal.TheVariants.{State, NoRoom}
+use Rattle.refusal.specs.Refusal.{answer_number}
 use Rattle.reader.specs.declared.Outcome.TheVariants.{Clean, Torn}
 use Rattle.writer.specs.Writing.{out_of_range, close_refusal}
 use Rattle.laws.specs.Yields.{Place, Yields}
@@ -54,16 +55,16 @@ module _ (d : Dialect) (xs : List ℕ) (calls : List Call) (words : AllWords cal
   abbrev pub now : Standing
   now = run d calls (fresh xs)
 
-  -- every state reached is in range, and no call on it answers State (22)
+  -- every state reached is in range, and no call on it answers State, 22
   pub state_in_range : out_of_range (length now.bytes) now.state ≡ false
   state_in_range = numbers.in_range d (length xs) (kept d xs calls words)
 
-  pub no_22 : (c : Call) → (result d c now.bytes now.state).reply.answer ≢ Err State
-  no_22 = numbers.never_22 d (length xs) (kept d xs calls words)
+  pub no_22 : (c : Call) → ((result d c now.bytes now.state).reply.answer ≢ Err State) × (answer_number (result d c now.bytes now.state).reply.answer ≢ 22)
+  no_22 c = let n = numbers.never_22 d (length xs) (kept d xs calls words) c in (n, numbers.not_22 _ n)
 
-  -- close never answers NoRoom (27)
-  pub no_27_to_close : close_refusal d (length now.bytes) now.state ≢ Err NoRoom
-  no_27_to_close = numbers.close_27 d (length xs) (kept d xs calls words)
+  -- close never answers NoRoom, 27
+  pub no_27_to_close : (close_refusal d (length now.bytes) now.state ≢ Err NoRoom) × (answer_number (close_refusal d (length now.bytes) now.state) ≢ 27)
+  no_27_to_close = let n = numbers.close_27 d (length xs) (kept d xs calls words) in (n, numbers.not_27 _ n)
 
   -- the buffer stays as long as it was
   pub same_size : length now.bytes ≡ length xs

@@ -1,8 +1,9 @@
 -- What is known where a call is not refused, and of what it then leaves.
-use Rattle.std.specs.Prelude.{ℕ, ◌+◌, ◌-◌, ◌≤◌, ◌≡◌, Bool, true, false, cond, not, ◌||◌, List, [], ◌++◌, drop, ltb, eqb, Result, Ok, Err, ⊤}
-use Rattle.std.proofs.Common.{arith, drop_at, ltb-false, ne_eqb}
+use Rattle.std.specs.Prelude.{ℕ, ◌+◌, ◌-◌, ◌≤◌, ◌≡◌, Bool, true, false, cond, not, ◌||◌, List, [], ◌++◌, length, drop, ltb, eqb, Result, Ok, Err, ⊤}
+use Rattle.std.proofs.Common.{arith, drop_at, ltb-false, ne_eqb, sym, ap, ◌∙◌}
 use Rattle.std.proofs.lemmas.Bool.{false≢true, eqb-false}
 use Rattle.number.specs.Limit.{limit}
+use Rattle.number.specs.Part.{over}
 use Rattle.dialect.specs.declared.Dialect.{Dialect}
 use Rattle.dialect.specs.Dialect.{good}
 use Rattle.dialect.specs.Good.{is_good}
@@ -14,8 +15,9 @@ use Rattle.refusal.specs.Refusal.{when_of}
 use Rattle.refusal.specs.Laws.{first_ok, when_ok, not_or}
 use Rattle.entry.specs.Entry.{Put, start, put, put_all, hashed}
 use Rattle.entry.specs.Sizes.{start_size}
+use Rattle.writer.specs.declared.Reply.{Reply}
 use Rattle.writer.specs.declared.WriterState.{WriterState}
-use Rattle.writer.specs.Writing.{out_of_range, no_room, shared_refusal, open_refusal, put_refusal, close_refusal, write_refusal, Outcome, refused_reply, settle, hashed_from}
+use Rattle.writer.specs.Writing.{out_of_range, no_room, shared_refusal, open_refusal, put_refusal, close_refusal, write_refusal, Outcome, refused_reply, settle, inside, outside, wrote, hashed_from}
 
 -- behind a Start, from where hashing begins, stands what the checksum covers
 pub hashed_stands : (d : Dialect) (count seqno : ℕ) (ps : List Put) → drop hashed_from (put d (start count seqno) [] ++ put_all d ps []) ≡ hashed d count seqno ps
@@ -154,3 +156,24 @@ settle_done r xs s o e = rw e
 
 pub settle_not : (r : Result ⊤ Refusal) (xs : List ℕ) (s : WriterState) (o : Outcome) (why : Refusal) → r ≡ Err why → settle r xs s o ≡ record { bytes = xs; reply = refused_reply s why }
 settle_not r xs s o why e = rw e
+
+-- a call that wrote nothing, and calls that wrote w and left zs: a batch is open behind them, or none
+pub idle_leaves : (n r : Result ⊤ Refusal) (xs : List ℕ) (s : WriterState) (o : Outcome) (a : Reply) → r ≡ n → r ≡ Ok tt → a ≡ o.reply → xs ≡ o.bytes
+    → (a ≡ (settle n xs s o).reply) × (xs ≡ (settle n xs s o).bytes)
+idle_leaves n r xs s o a e z p q = rw (settle_done n xs s o (sym e ∙ z)) (p, q)
+
+-- so many bytes were written at a position, and this state is behind them
+abbrev pub reply_at : (ℕ → WriterState) → ℕ → ℕ → Reply
+reply_at t at size = record { state = t (at + size); answer = Ok size }
+
+pub inside_leaves : (n r : Result ⊤ Refusal) (xs : List ℕ) (s : WriterState) (w : List ℕ) (from left size : ℕ) (a : Reply) (zs : List ℕ)
+    → r ≡ n → r ≡ Ok tt → length w ≡ size → a ≡ reply_at (inside from left) s.position size → zs ≡ over s.position w xs
+    → (a ≡ (settle n xs s (wrote xs s w (inside from left))).reply) × (zs ≡ (settle n xs s (wrote xs s w (inside from left))).bytes)
+inside_leaves n r xs s w from left size a zs e z l p q =
+    rw (settle_done n xs s (wrote xs s w (inside from left)) (sym e ∙ z)) (p ∙ ap (reply_at (inside from left) s.position) (sym l), q)
+
+pub outside_leaves : (n r : Result ⊤ Refusal) (xs : List ℕ) (s : WriterState) (w : List ℕ) (size : ℕ) (a : Reply) (zs : List ℕ)
+    → r ≡ n → r ≡ Ok tt → length w ≡ size → a ≡ reply_at outside s.position size → zs ≡ over s.position w xs
+    → (a ≡ (settle n xs s (wrote xs s w outside)).reply) × (zs ≡ (settle n xs s (wrote xs s w outside)).bytes)
+outside_leaves n r xs s w size a zs e z l p q =
+    rw (settle_done n xs s (wrote xs s w outside) (sym e ∙ z)) (p ∙ ap (reply_at outside s.position) (sym l), q)

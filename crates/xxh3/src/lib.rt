@@ -33,6 +33,15 @@ pub const SECRET: Secret = [
     0x45, 0xcb, 0x3a, 0x8f, 0x95, 0x16, 0x04, 0x28, 0xaf, 0xd7, 0xfb, 0xca, 0xbb, 0x4b, 0x40, 0x7e,
 ];
 
+// A secret that is lent as a slice. It assumes 192 bytes.
+#[inline(always)]
+fn secret_in(k: &[u8]) -> &Secret
+    requires { length k.now ≡ 192 }
+    ensures { result.now ≡ k.now }
+{
+    k.as_array().unwrap()
+}
+
 // ---- final mixing
 
 #[tactic(auto, unfolding(crate::specs::Xxh3::avalanche))]
@@ -308,15 +317,20 @@ fn merge_pair(k: &Secret, j: usize, x: u64, y: u64) -> u64
     fold64(x ^ read::<8>(k, j), y ^ read::<8>(k, j + 8))
 }
 
-// The hash of a large input of n bytes, from its accumulators. A helper of crate stream too.
+// The hash of a large input of n bytes, from its accumulators. A helper of crate stream too: it assumes a secret of 192 bytes.
 #[tactic(auto, unfolding(crate::specs::Xxh3::final_merge))]
-pub fn final_merge(k: &Secret, n: u64, a: [u64; 8]) -> u64
+pub fn final_merge(k: &[u8], n: u64, a: [u64; 8]) -> u64
+    requires { length k.now ≡ 192 }
     ensures { result ≡ final_merge k.now (times n prime64_1) 11 a }
 {
-    let t = add64(mul64(n, 0x9E3779B185EBCA87), merge_pair(k, 11, a[0], a[1]));
-    let u = add64(t, merge_pair(k, 27, a[2], a[3]));
-    let v = add64(u, merge_pair(k, 43, a[4], a[5]));
-    avalanche(add64(v, merge_pair(k, 59, a[6], a[7])))
+    let secret = secret_in(k);
+    let t = add64(
+        mul64(n, 0x9E3779B185EBCA87),
+        merge_pair(secret, 11, a[0], a[1]),
+    );
+    let u = add64(t, merge_pair(secret, 27, a[2], a[3]));
+    let v = add64(u, merge_pair(secret, 43, a[4], a[5]));
+    avalanche(add64(v, merge_pair(secret, 59, a[6], a[7])))
 }
 
 #[tactic(auto, using(crate::specs::Stripes::large_by_stripes))]
@@ -351,22 +365,24 @@ fn xxh3_64_small(k: &Secret, s: &[u8]) -> u64
     xxh3_64_9to16(k, s)
 }
 
-// A helper of the layers above, which know their length to be within the limit, no public call: it refuses nothing.
+// A helper of the layers above, which know their length to be within the limit, no public call: it refuses nothing, and assumes a secret of 192 bytes.
 #[tactic(auto, using(crate::specs::Classes::hash_17to128, crate::specs::Classes::hash_129to240, crate::specs::Classes::hash_large))]
-pub fn hash_of(k: &Secret, s: &[u8]) -> u64
+pub fn hash_of(k: &[u8], s: &[u8]) -> u64
+    requires { length k.now ≡ 192 }
     ensures { result ≡ hash k.now s.now }
 {
+    let secret = secret_in(k);
     let n = s.len();
     if n <= 16 {
-        return xxh3_64_small(k, s);
+        return xxh3_64_small(secret, s);
     }
     if n <= 128 {
-        return xxh3_64_17to128(k, s);
+        return xxh3_64_17to128(secret, s);
     }
     if n <= 240 {
-        return xxh3_64_129to240(k, s);
+        return xxh3_64_129to240(secret, s);
     }
-    xxh3_64_large(k, s)
+    xxh3_64_large(secret, s)
 }
 
 // ---- with the default secret
