@@ -10,7 +10,7 @@ use Rattle.refusal.specs.declared.Refusal.TheVariants as refusal
 use Rattle.refusal.specs.Refusal.{when_of, first_of}
 use Rattle.encode.specs.Encoding.{settled}
 use Rattle.listing.specs.Listing.{list_refusal, listing, listed}
-use Rattle.dumping.specs.Dumping.{dump_refusal, refused_line, said, dumped}
+use Rattle.dumping.specs.Dumping.{dump_refusal, refused_line, said, printed_over, dumped}
 
 -- where there is room for the longest journal's listing, the listing's call refuses what the dump refuses
 room_enough : (d : Dialect) (n : ℕ) → list_refusal d n 262_272 ≡ dump_refusal d n
@@ -21,27 +21,29 @@ room_enough d n = ap (first_of (when_of (not (good d)) refusal.Dialect)) (go (lt
     go true e = refl
     go false e = let h : n ≤ 65_536 = ltb-false 65_536 n e in rw (le-ltb 262_272 (4 * n + 128) (omega arith)) refl
 
-module _ (d : Dialect) (s out : List ℕ) (room : length out ≡ 262_272) where
-  same_refusal : list_refusal d (length s) (length out) ≡ dump_refusal d (length s)
-  same_refusal = ap (list_refusal d (length s)) room ∙ room_enough d (length s)
+-- what is printed with that much room is what the dump prints
+pub with_room : (d : Dialect) (s : List ℕ) (room : ℕ) → room ≡ 262_272 → printed_over d s room ≡ dumped d s
+unfolding printed_over dumped
+with_room d s room e = ap (λ r. said r (listing d s)) (ap (list_refusal d (length s)) e ∙ room_enough d (length s))
 
-  pub wrote_dump : (ys : List ℕ) (k : ℕ) → Ok k ≡ (listed d s out).answer → ys ≡ (listed d s out).buffer → take k ys ≡ dumped d s
-  unfolding listed dumped said
-  wrote_dump ys k a b = go (list_refusal d (length s) (length out)) refl a b
+module _ (d : Dialect) (s out : List ℕ) where
+  pub wrote_over : (ys : List ℕ) (k : ℕ) → Ok k ≡ (listed d s out).answer → ys ≡ (listed d s out).buffer → take k ys ≡ printed_over d s (length out)
+  unfolding listed printed_over said
+  wrote_over ys k a b = go (list_refusal d (length s) (length out)) refl a b
     where
-      go : (r : Result ⊤ Refusal) → list_refusal d (length s) (length out) ≡ r → Ok k ≡ (settled r (listing d s) out).answer → ys ≡ (settled r (listing d s) out).buffer → take k ys ≡ said (dump_refusal d (length s)) (listing d s)
+      go : (r : Result ⊤ Refusal) → list_refusal d (length s) (length out) ≡ r → Ok k ≡ (settled r (listing d s) out).answer → ys ≡ (settled r (listing d s) out).buffer → take k ys ≡ said (list_refusal d (length s) (length out)) (listing d s)
       go (Ok u) e a b =
           let k_is : k ≡ length (listing d s) = cc in
-          rw (sym same_refusal ∙ e, b) (take_at (listing d s) (drop (length (listing d s)) out) k (sym k_is))
+          rw (e, b) (take_at (listing d s) (drop (length (listing d s)) out) k (sym k_is))
       go (Err r) e a b = absurd (cc)
 
-  pub refused_dump : (r : Refusal) → Err r ≡ (listed d s out).answer → refused_line r ≡ dumped d s
-  unfolding listed dumped said
-  refused_dump r a = go (list_refusal d (length s) (length out)) refl a
+  pub refused_over : (r : Refusal) → Err r ≡ (listed d s out).answer → refused_line r ≡ printed_over d s (length out)
+  unfolding listed printed_over said
+  refused_over r a = go (list_refusal d (length s) (length out)) refl a
     where
-      go : (q : Result ⊤ Refusal) → list_refusal d (length s) (length out) ≡ q → Err r ≡ (settled q (listing d s) out).answer → refused_line r ≡ said (dump_refusal d (length s)) (listing d s)
+      go : (q : Result ⊤ Refusal) → list_refusal d (length s) (length out) ≡ q → Err r ≡ (settled q (listing d s) out).answer → refused_line r ≡ said (list_refusal d (length s) (length out)) (listing d s)
       go (Ok u) e a = absurd (cc)
-      go (Err q) e a = let r_is : r ≡ q = cc in rw (sym same_refusal ∙ e, r_is) refl
+      go (Err q) e a = let r_is : r ≡ q = cc in rw (e, r_is) refl
 
 -- a front above 65,536 bytes is refused as the whole is
 pub front_refused : (d : Dialect) (s t : List ℕ) → 65_536 < length s → dumped d s ≡ dumped d (s ++ t)

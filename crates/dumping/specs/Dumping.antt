@@ -6,7 +6,7 @@ use Rattle.dialect.specs.Dialect.{good}
 use Rattle.refusal.specs.declared.Refusal.{Refusal}
 use Rattle.refusal.specs.declared.Refusal.TheVariants as refusal
 use Rattle.refusal.specs.Refusal.{number_of, when_of, first_of}
-use Rattle.listing.specs.Listing.{listing}
+use Rattle.listing.specs.Listing.{list_refusal, listing}
 use Rattle.dumping.specs.declared.Failure.{Failure}
 use Rattle.dumping.specs.declared.Failure.TheVariants.{Input, Output}
 
@@ -22,6 +22,10 @@ refused_line r = codes "refused " ++ decimal (number_of r) ++ codes "\n"
 unfoldable pub said : Result ⊤ Refusal → List ℕ → List ℕ
 said (Ok _) text = text
 said (Err r) text = refused_line r
+
+-- an image's listing where there is so much room for it, or the line of its refusal
+unfoldable pub printed_over : Dialect → List ℕ → ℕ → List ℕ
+printed_over d s room = said (list_refusal d (length s) room) (listing d s)
 
 unfoldable pub dumped : Dialect → List ℕ → List ℕ
 dumped d s = said (dump_refusal d (length s)) (listing d s)

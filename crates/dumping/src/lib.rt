@@ -1,10 +1,11 @@
 // What the dump programs share: a journal from standard input, listed on standard output.
-// Public: dump, print_listing and read_full.
+// Public: dump, print_listing, print_over and read_full.
 #![tactic(auto)]
 
 ghost use Rattle.std.specs.Prelude.{◌≡◌, ◌≤◌, ◌<◌, length, take, IfOk, OnOk, IfErr, IfSome};
 ghost use Rattle.std.specs.Io.KnownBytes.{Appends, Consumes, IsAtEnd, Keeps};
-ghost use Rattle.dumping.specs.Dumping.{refused_line, dumped, IsUnread};
+ghost use Rattle.listing.specs.Listing.{listed};
+ghost use Rattle.dumping.specs.Dumping.{refused_line, printed_over, dumped, IsUnread};
 
 use dialect::Dialect;
 use listing::{LONGEST, ROOM, list};
@@ -42,15 +43,27 @@ fn print_refused<W: Write>(writer: &mut W, refusal: Refusal) -> io::Result<()>
     writeln!(writer, "refused {refusal}")
 }
 
-// The listing of an image, or the line of its refusal.
-pub fn print_listing<W: Write>(writer: &mut W, image: &[u8], d: Dialect) -> io::Result<()>
-    ensures { OnOk result (Appends (W.contents writer.old) (W.contents writer.new) (dumped d image.now)) }
+// The listing of an image, made in a lent part, or the line of its refusal, which is 27 where that part is too short.
+pub fn print_over<W: Write>(
+    writer: &mut W,
+    image: &[u8],
+    d: Dialect,
+    out: &mut [u8],
+) -> io::Result<()>
+    ensures text { OnOk result (Appends (W.contents writer.old) (W.contents writer.new) (printed_over d image.now (length out.old))) }
+    ensures part { out.new ≡ (listed d image.now out.old).buffer }
 {
-    let mut out = [0u8; ROOM];
-    match list(image, d, &mut out) {
+    match list(image, d, out) {
         Ok(bytes) => writer.write_all(&out[..bytes]),
         Err(refusal) => print_refused(writer, refusal),
     }
+}
+
+// The same with room for any listing.
+pub fn print_listing<W: Write>(writer: &mut W, image: &[u8], d: Dialect) -> io::Result<()>
+    ensures { OnOk result (Appends (W.contents writer.old) (W.contents writer.new) (dumped d image.now)) }
+{
+    print_over(writer, image, d, &mut [0u8; ROOM])
 }
 
 // Reads up to one byte more than may be listed, so that a longer journal is refused; the buffer has room for any listing. Where a read

@@ -4,12 +4,14 @@
 #![tactic(auto)]
 
 use dialect::Dialect;
-use dumping::{print_listing, read_full};
+use dumping::{print_over, read_full};
 use entry::decode;
 use std::io::{self, Read};
 
-// The most bytes of an image.
+// The most bytes of an image, and room for the listing of any: the dump's own would be laid anew for each image, 32 times as long.
 const LONGEST: usize = 2048;
+
+const ROOM: usize = 4 * LONGEST + 128;
 
 // The number of the fault of the entry at the first byte, or 0.
 fn first_fault(image: &[u8], d: Dialect) -> u32 {
@@ -31,7 +33,7 @@ fn read_length(input: &mut impl Read) -> io::Result<Option<usize>> {
 fn print_answers(rt: &impl Print, i: u64, image: &[u8], d: Dialect) -> io::Result<()> {
     let fault = first_fault(image, d);
     println!(rt; "image {i} entry {fault}")?;
-    print_listing(&mut io::writer(rt), image, d)
+    print_over(&mut io::writer(rt), image, d, &mut [0; ROOM])
 }
 
 pub fn replay(rt: &(impl Input + Print), d: Dialect) -> io::Result<()> {
