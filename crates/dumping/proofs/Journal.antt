@@ -45,6 +45,14 @@ module _ (d : Dialect) (s out : List ℕ) where
       go (Ok u) e a = absurd (cc)
       go (Err q) e a = let r_is : r ≡ q = cc in rw (e, r_is) refl
 
+-- with room for any listing these are what the dump prints
+module _ (d : Dialect) (s out : List ℕ) (room : length out ≡ 262_272) where
+  pub wrote_dump : (ys : List ℕ) (k : ℕ) → Ok k ≡ (listed d s out).answer → ys ≡ (listed d s out).buffer → take k ys ≡ dumped d s
+  wrote_dump ys k a b = wrote_over d s out ys k a b ∙ with_room d s (length out) room
+
+  pub refused_dump : (r : Refusal) → Err r ≡ (listed d s out).answer → refused_line r ≡ dumped d s
+  refused_dump r a = refused_over d s out r a ∙ with_room d s (length out) room
+
 -- a front above 65,536 bytes is refused as the whole is
 pub front_refused : (d : Dialect) (s t : List ℕ) → 65_536 < length s → dumped d s ≡ dumped d (s ++ t)
 unfolding dumped dump_refusal said
