@@ -1,6 +1,7 @@
-use Rattle.reader.proofs.Tags.{room, item_hashed, head_filled}
+use Rattle.reader.proofs.Tags.{room, item_placed, item_taken, head_filled}
 use Rattle.entry.proofs.Places.{placed}
-use mathlib.Core.Path.{refl}
+use Rattle.std.specs.Prelude.{Ok}
+use mathlib.Core.Path.{refl, sym, ap, ◌∙◌}
 use Rattle.reader.proofs.anew_at.Goals as goal
 
 pub other_anew-requires : goal.other_anew-requires
@@ -13,5 +14,6 @@ returns c =
     let i = c.in-Item in
     let j = c.args.journal.now in
     let b = head_filled i.value_type j.dialect.none i.keyspace i.key_len i.value_len _ c.fill_head.ensures in
+    let p = item_placed j.dialect j.image.now c.args.at _ _ _ _ _ _ _ c.requires.0 (sym c.in-Ok.ensures ∙ ap Ok i.is) in
     rw (← c.in-Ok.ensures, i.is)
-    (refl, item_hashed c.args.secret.now j.dialect j.image.now _ _ _ _ i.value_type i.keyspace i.key_at i.key_len i.value_at i.value_len _ b c.take_in.ensures.taken c.take_in-2.ensures.taken)
+    (refl, item_taken c.args.secret.now j.dialect j.image.now c.args.at c.args.hasher.now _ _ _ _ _ i.value_type i.keyspace i.key_at i.key_len i.value_at i.value_len _ b p c.absorb_parts.ensures c.absorb_parts-2.ensures)
