@@ -4,15 +4,15 @@
     tests/edits.py LOG      judges what `rt ci` or `rt must-fail` printed, which the file LOG has ('-': standard input)
     tests/edits.py --self   shows that each poor edit below is caught
 
-An edit is a wrong program or a wrong definition: pairs of a text and what to put in its place. rt tries each edit by itself and prints a line for
-it, which has the first thing that the prover says against it, and where. That must be said against the very function whose text is replaced; or,
-where the text is a constant's or a definition's, against whatever cites it. Where an edit replaces several, one of them is enough; so such an edit
-counts for no call.
+An edit is a wrong program, a wrong definition or a wrong promise in a contract: pairs of a text and what to put in its place. rt tries each edit
+by itself and prints a line for it, which has the first thing that the prover says against it, and where. That must be said against the very
+function whose text is replaced; or, where the text is a constant's or a definition's, against whatever cites it; or, where a promise is added to a
+contract, against that promise. Where an edit replaces several, one of them is enough; so such an edit counts for no call.
 
 A refusal shows nothing where only the shape of the code changed, so that the proof file no longer fits. Two things are looked at: the
-replacement keeps the shape of the code, token by token, but for operands, literals and operators of one kind; and what the prover says is about
-a fact and not about names, fields or missing parts of a proof. Goals are named after the code: where a name changes with the text, the edit
-has pairs for the proof file as well, so that its answers are held against the wrong code.
+replacement of code, which a contract is not, keeps its shape, token by token, but for operands, literals and operators of one kind; and what the
+prover says is about a fact and not about names, fields or missing parts of a proof. Goals are named after the code: where a name changes with the
+text, the edit has pairs for the proof file as well, so that its answers are held against the wrong code.
 
 Every public call that docs/ARCHITECTURE.md lists has an edit, every exported function too, and a crate has two edits or more for each of its
 public calls.
@@ -120,6 +120,13 @@ def changed(pairs, sources):
     return set() if None in names else set(names)
 
 
+def promised(pair):
+    """The clauses that a pair adds to one that stands, by their names."""
+    named = re.match(r'ensures \w+ ', pair.new)
+    kept = pair.old.startswith('ensures {') and named and named[0] + pair.old[len('ensures '):]
+    return re.findall(r'\bensures (\w+) \{', pair.new[len(kept):]) if kept and pair.new.startswith(kept) else []
+
+
 def refused(said, sources):
     """What the prover speaks against first, a function or else a file, and what it says."""
     place = PLACE.match((said or '')[len(REFUSED):].lstrip(': '))
@@ -148,6 +155,9 @@ def against_line(said, pairs, sources):
     names = changed(pairs, sources)
     if names and at not in names:
         return f'{at} is refused, and not {" or ".join(sorted(names))}'
+    added = [name for it in pairs for name in promised(it)]
+    if len(names) == 1 and added and not any(f'clause-{name}`' in text for name in added):
+        return f'the promise {" or ".join(added)} is not what is refused: {text[:160]}'
     return None
 
 
@@ -274,6 +284,9 @@ def self_test():
         ('a contract', 'result ≡ true', 'true', fact, False),
         ('a constant', 'u64 = 9', 'u64 = 8', fact.replace('/f/', '/h/'), False),
     ]
+    clause, more = 'ensures { result ≡ true }', 'ensures all { result ≡ true } ensures more { result ≡ false }'
+    cases += [('a promise, and another clause is refused', clause, more, note.format(11).replace('returns`', 'returns-clause-all`'), True),
+              ('a promise', clause, more, note.format(11).replace('returns`', 'returns-in_err-clause-more`'), False)]
     cases = [(name, [Pair('src/lib.rt', old, new)], said, caught) for name, old, new, said, caught in cases]
     follows = 'file: proofs/f/Answers.antt\nold: returns-then-a\nnew: returns-then-b\n'
     follower = 'file: src/lib.rt\nold: , a < b\nnew: , a <= b\n' + follows
